@@ -6,11 +6,8 @@ use Rattle.lam_rules.specs.Types.{Typ}
 use Rattle.lam_rules.specs.Terms.{Term}
 use Rattle.lam_rules.specs.Subtyping.{IsBelow, ProvesBelow}
 use Rattle.lam_rules.specs.Typing.{Context, typing_step, typing_first, no_typings, HasType}
-use Rattle.lam_rules.specs.TermViews.{written_of}
-use Rattle.lam_rules.specs.TypingViews.{context_of}
 use Rattle.lam_rules.specs.declared.rules.Dialect.{Dialect}
 use Rattle.lam_rules.specs.declared.rules.TypeRule.{TypeRule}
-use Rattle.lam_rules.specs.declared.types.Ty.{Ty}
 use Rattle.lam_rules.proofs.ByShape.{below_wf}
 use Rattle.lam_syntax.specs.Trees.{CommandTree}
 use Rattle.lam_scope.specs.Bindings.{IsOriginOf, AreOriginsOf}
@@ -21,8 +18,6 @@ use Rattle.lam_scope.specs.Tables.{TextBinder, table, binder_numbered, visible_a
 use Rattle.lam_scope.specs.Views.{table_of, origins_of}
 use Rattle.lam_scope.specs.declared.numbers.Origin.{Origin}
 use Rattle.lam_scope.specs.declared.numbers.Origin.TheVariants.{Lambda, Term as TermAt, Declaration, TypeName}
-use Rattle.lam_scope.specs.declared.resolved.Resolved.{Resolved}
-use Rattle.lam_scope.specs.declared.scopes.Scopes.{Scopes}
 use Rattle.lam_scope.proofs.PlacedPlaces.{same_places}
 use Rattle.lam_scope.proofs.Reading.{map-reverse}
 use Rattle.lam_scope.proofs.ScopeBindings.{sight_origins}
@@ -40,10 +35,10 @@ use Rattle.lam_typing.proofs.Together.{least_length}
 use Rattle.lam_query.specs.WellTypedDocuments.{statements_in}
 use Rattle.lam_query.proofs.RowsAndTerms.{number_told}
 use Rattle.lam_query.proofs.Small.{least_at}
-use Rattle.lam_query.proofs.Verifying.{context_reversed}
 use Rattle.lam_query.specs.FirstFaults.{IsFirstUnfitEntry}
 use Rattle.lam_typing.specs.Fitting.{FitsAt, FitsFound}
-use Rattle.lam_query.specs.inner.Verifying.{AreFormsOf, IsFirstNot}
+use Rattle.lam_query.specs.declared.verify.TypedText.{TypedText}
+use Rattle.lam_query.specs.inner.Verifying.{IsFirstNot, IsTextOf}
 
 -- ---- the types of one term
 
@@ -73,18 +68,16 @@ fits_found ss (TermAt p) (written w) outside found entry d origin least = absurd
 fits_found ss TypeName (written w) outside found entry d origin least = absurd origin
 fits_found ss TypeName (of_term e) outside found entry d origin least = absurd origin
 
--- the same for each binder of a scope
+-- entries that fit by those found of each binder of a scope are a context of it
 each_fits : (ss : List Statement) (f : Origin → Option Typ) (sight : Sight) (s : Scope) (g : Context) (d : Dialect) → AreOriginsOf ss sight s → AreLeastEntries s (map f sight) d
-    → (AllZip (λ o entry. FitsFound o (f o) entry d) sight g ↔ IsContext s g d)
-each_fits ss f [] [] [] d origins least = (λ h. tt, λ h. tt)
-each_fits ss f [] [] (entry ∷ g) d origins least = (λ h. absurd h, λ h. absurd h)
-each_fits ss f (o ∷ sight) (b ∷ s) [] d origins least = (λ h. absurd h, λ h. absurd h)
-each_fits ss f (o ∷ sight) (b ∷ s) (entry ∷ g) d origins least =
-    let one = fits_found ss o b s (f o) entry d origins.0 least.0 in
-    let rest = each_fits ss f sight s g d origins.1 least.1 in
-    (λ h. (one.0 h.0, rest.0 h.1), λ h. (one.1 h.0, rest.1 h.1))
-each_fits ss f [] (b ∷ s) g d origins least = absurd origins
-each_fits ss f (o ∷ sight) [] g d origins least = absurd origins
+    → AllZip (λ o entry. FitsFound o (f o) entry d) sight g → IsContext s g d
+each_fits ss f [] [] [] d origins least h = tt
+each_fits ss f [] [] (entry ∷ g) d origins least h = absurd h
+each_fits ss f (o ∷ sight) (b ∷ s) [] d origins least h = absurd h
+each_fits ss f (o ∷ sight) (b ∷ s) (entry ∷ g) d origins least h =
+    ((fits_found ss o b s (f o) entry d origins.0 least.0).0 h.0, each_fits ss f sight s g d origins.1 least.1 h.1)
+each_fits ss f [] (b ∷ s) g d origins least h = absurd origins
+each_fits ss f (o ∷ sight) [] g d origins least h = absurd origins
 
 -- ---- two lists, element by element
 
@@ -123,12 +116,6 @@ mapped R Q f [] [] each h = tt
 mapped R Q f (x ∷ xs) (y ∷ ys) each h = (each x y h.0, mapped R Q f xs ys each h.1)
 mapped R Q f [] (y ∷ ys) each h = absurd h
 mapped R Q f (x ∷ xs) [] each h = absurd h
-
-unmapped : {A B C : Type 0} (R : A → C → Type 0) (Q : B → C → Type 0) (f : A → B) (xs : List A) (ys : List C) → ((x : A) (y : C) → Q (f x) y → R x y) → AllZip Q (map f xs) ys → AllZip R xs ys
-unmapped R Q f [] [] each h = tt
-unmapped R Q f (x ∷ xs) (y ∷ ys) each h = (each x y h.0, unmapped R Q f xs ys each h.1)
-unmapped R Q f [] (y ∷ ys) each h = absurd h
-unmapped R Q f (x ∷ xs) [] each h = absurd h
 
 -- ---- the first that is not
 
@@ -196,8 +183,7 @@ first_unfit ss f (o ∷ sight) [] (entry ∷ g) d n origins least h = absurd ori
 first_unfit ss f (o ∷ sight) (b ∷ s) (entry ∷ g) d n origins least (inl h) = inl (first_unfit ss f sight s g d n origins.1 least.1 h)
 first_unfit ss f (o ∷ sight) (b ∷ s) (entry ∷ g) d n origins least (inr h) =
     let one = fits_found ss o b s (f o) entry d origins.0 least.0 in
-    let rest = each_fits ss f sight s g d origins.1 least.1 in
-    inr (rest.0 h.0, (λ is. h.1 (one.1 is)), h.2 ∙ origins_long ss sight s origins.1)
+    inr (each_fits ss f sight s g d origins.1 least.1 h.0, (λ is. h.1 (one.1 is)), h.2 ∙ origins_long ss sight s origins.1)
 
 pub unfit_no_context : {A : Type 0} (s : Scope) (g : Context) (d : Dialect) (n : ℕ) → IsFirstUnfitEntry s g d n → IsContext s g d → A
 unfit_no_context [] g d n h context = absurd h
@@ -216,9 +202,6 @@ first_not R f g xs ys i x y inside within at not_here so_far = record {
       (subst (λ z. R (f (get_or xs i x)) z) (get_or-map g ys i y b within ∙ ap g (sym at)) (subst (λ z. R z (get_or (map g ys) i b)) (get_or-map f xs i x a inside) h));
 }
 
-pub no_number : {A : Type 0} (n : ℕ) → Some n ≡ None → A
-no_number n none = let clash : Some n ≡ None = none in absurd cc
-
 -- ---- by number
 
 by_number : {T : Type 0} (f : Origin → T) (rows : List TextBinder) (n : ℕ) (default : TextBinder) (none : T) → f TypeName ≡ none → default.origin ≡ TypeName
@@ -232,7 +215,16 @@ origin_there [] n default is = sym is
 origin_there (r ∷ rows) zero default is = refl
 origin_there (r ∷ rows) (suc n) default is = origin_there rows n default is
 
-module _ (cs : List CommandTree) (scopes : Scopes) (resolved : Resolved) (typing : Typing) (d : Dialect) (forms : AreFormsOf cs scopes resolved typing d) where
+module _ (cs : List CommandTree) (text : TypedText) (is_text : IsTextOf cs text) where
+  abbrev d : Dialect
+  d = text.dialect
+
+  abbrev typing : Typing
+  typing = text.types.typing
+
+  abbrev origins : List Origin
+  origins = origins_of text.types.resolved
+
   abbrev Stated : List Statement
   Stated = statements_in cs
 
@@ -243,17 +235,17 @@ module _ (cs : List CommandTree) (scopes : Scopes) (resolved : Resolved) (typing
   abbrev origin_of : ℕ → Origin
   origin_of b = (binder_numbered (table cs) b).origin
 
-  origin_is : (b : ℕ) → get_or (origins_of resolved) b TypeName ≡ origin_of b
-  origin_is b = ap (λ os. get_or os b TypeName) forms.are_origins ∙ origin_there (table cs).binders b _ refl
+  origin_is : (b : ℕ) → get_or origins b TypeName ≡ origin_of b
+  origin_is b = ap (λ os. get_or os b TypeName) is_text.are_types.origins ∙ origin_there (table cs).binders b _ refl
 
   entry_is : (b : ℕ) → get_or (entries_in typing) b None ≡ Found (origin_of b)
   entry_is b =
       let each : entries_in typing ≡ map Found (map (λ r. r.origin) (table cs).binders) =
-      forms.entries.each ∙ (λ i. map (entry_from (forms.are_statements i) (found_of typing)) (forms.are_origins i)) in
+      is_text.are_types.entries.each ∙ (λ i. map (entry_from (is_text.are_types.statements i) (found_of typing)) (is_text.are_types.origins i)) in
       ap (λ es. get_or es b None) each ∙ by_number Found (table cs).binders b _ None refl refl
 
   found_least : AreLeast (places_of [] Stated) (found_of typing) d
-  found_least = subst (λ ss. AreLeast (places_of [] ss) (found_of typing) d) forms.are_statements forms.analysis.least
+  found_least = subst (λ ps. AreLeast ps (found_of typing) d) (sym (same_places cs)) is_text.are_types.typed.least
 
   -- the entries found are the least ones of the scope of a place
   sight_least : (n : ℕ) → n < length (places_of [] Stated) → AreLeastEntries (place_numbered Stated n).scope (map Found (sight_numbered Stated n)) d
@@ -263,63 +255,49 @@ module _ (cs : List CommandTree) (scopes : Scopes) (resolved : Resolved) (typing
       (λ m lt. least_at (places_of [] Stated) (found_of typing) m _ d (omega (arith, long, lt)) found_least) (document-wf cs) refl inside).entries (omega (arith, long, inside))
 
   abbrev ByNumber : ℕ → Option Typ → Type 0
-  ByNumber = FitsAt (origins_of resolved) typing d
+  ByNumber = FitsAt origins typing d
 
   abbrev ByOrigin : Origin → Option Typ → Type 0
   ByOrigin o entry = FitsFound o (Found o) entry d
 
   at_origin : (b : ℕ) (entry : Option Typ) → ByNumber b entry → ByOrigin (origin_of b) entry
-  at_origin b entry h = subst (λ o. FitsFound o (Found (origin_of b)) entry d) (origin_is b) (subst (λ x. FitsFound (get_or (origins_of resolved) b TypeName) x entry d) (entry_is b) h)
+  at_origin b entry h = subst (λ o. FitsFound o (Found (origin_of b)) entry d) (origin_is b) (subst (λ x. FitsFound (get_or origins b TypeName) x entry d) (entry_is b) h)
 
   at_number : (b : ℕ) (entry : Option Typ) → ByOrigin (origin_of b) entry → ByNumber b entry
-  at_number b entry h = subst (λ x. FitsFound (get_or (origins_of resolved) b TypeName) x entry d) (sym (entry_is b)) (subst (λ o. FitsFound o (Found (origin_of b)) entry d) (sym (origin_is b)) h)
+  at_number b entry h = subst (λ x. FitsFound (get_or origins b TypeName) x entry d) (sym (entry_is b)) (subst (λ o. FitsFound o (Found (origin_of b)) entry d) (sym (origin_is b)) h)
+
+  within : (n : ℕ) → n < length (document_terms cs) → n < length (places_of [] Stated)
+  within n inside = let same = ap length (same_places cs) ∙ length-map (document_terms cs) (λ t. (term_of t).place) in omega (arith, same, inside)
+
+  scope_is : (n : ℕ) → (place_numbered Stated n).scope ≡ (term_of (tree_in (document_terms cs) n)).place.scope
+  scope_is n = ap (λ (p : Place). p.scope) (number_told cs n)
+
+  seen_are : (n : ℕ) (bs : List ℕ) → bs ≡ visible_at (table_of text.scopes) n → map origin_of bs ≡ reverse (sight_numbered Stated n)
+  seen_are n bs seen = ap (map origin_of) (seen ∙ ap (λ t. visible_at t n) is_text.are_scopes.same_table) ∙ visible_origins cs n
 
   -- entries that fit by those found of the binders in scope at a term are a context of it
-  pub listed_context : (n : ℕ) (bs : List ℕ) (entries : List (Option Ty)) → n < length (document_terms cs) → bs ≡ visible_at (table_of scopes) n
-      → (AllZip (FitsAt (origins_of resolved) typing d) bs (map written_of entries) ↔ IsContext (term_of (tree_in (document_terms cs) n)).place.scope (context_of entries) d)
-  listed_context n bs entries inside seen =
+  listed_context : (n : ℕ) (bs : List ℕ) (types : List (Option Typ)) → n < length (document_terms cs) → bs ≡ visible_at (table_of text.scopes) n
+      → AllZip ByNumber bs types → IsContext (term_of (tree_in (document_terms cs) n)).place.scope (reverse types) d
+  listed_context n bs types inside seen h =
       let sight = sight_numbered Stated n in
-      let types = map written_of entries in
-      let within : n < length (places_of [] Stated) = (let same = ap length (same_places cs) ∙ length-map (document_terms cs) (λ t. (term_of t).place) in omega (arith, same, inside)) in
-      let visible : map origin_of bs ≡ reverse sight = ap (map origin_of) (seen ∙ ap (λ t. visible_at t n) forms.are_scopes.same_table) ∙ visible_origins cs n in
-      let both = each_fits Stated Found sight (place_numbered Stated n).scope (context_of entries) d (sight_origins cs n) (sight_least n within) in
-      let there : (place_numbered Stated n).scope ≡ (term_of (tree_in (document_terms cs) n)).place.scope = ap (λ (p : Place). p.scope) (number_told cs n) in
-      let listed : context_of entries ≡ reverse types = context_reversed entries in (
-        λ h.
-            let outward = subst (λ os. AllZip ByOrigin os types) visible (mapped ByNumber ByOrigin origin_of bs types at_origin h) in
-            let inward = reversed ByOrigin (reverse sight) types outward in
-            let own = subst (λ g. AllZip ByOrigin sight g) (sym listed) (subst (λ os. AllZip ByOrigin os (reverse types)) (reverse-reverse sight) inward) in
-            subst (λ s. IsContext s (context_of entries) d) there (both.0 own),
-        λ is.
-            let own = both.1 (subst (λ s. IsContext s (context_of entries) d) (sym there) is) in
-            let inward = subst (λ g. AllZip ByOrigin sight g) listed own in
-            let outward = subst (λ es. AllZip ByOrigin (reverse sight) es) (reverse-reverse types) (reversed ByOrigin sight (reverse types) inward) in
-            unmapped ByNumber ByOrigin origin_of bs types at_number (subst (λ os. AllZip ByOrigin os types) (sym visible) outward),
-      )
+      let outward = subst (λ os. AllZip ByOrigin os types) (seen_are n bs seen) (mapped ByNumber ByOrigin origin_of bs types at_origin h) in
+      let own = subst (λ os. AllZip ByOrigin os (reverse types)) (reverse-reverse sight) (reversed ByOrigin (reverse sight) types outward) in
+      subst (λ s. IsContext s (reverse types) d) (scope_is n)
+      (each_fits Stated Found sight (place_numbered Stated n).scope (reverse types) d (sight_origins cs n) (sight_least n (within n inside)) own)
 
   -- the first entry that does not fit by the one found is the first that does not fit
-  listed_unfit : (n : ℕ) (bs : List ℕ) (entries : List (Option Ty)) (k : ℕ) → n < length (document_terms cs) → bs ≡ visible_at (table_of scopes) n → length entries ≡ length bs
-      → IsFirstNot (FitsAt (origins_of resolved) typing d) bs (map written_of entries) k → IsFirstUnfitEntry (term_of (tree_in (document_terms cs) n)).place.scope (context_of entries) d k
-  listed_unfit n bs entries k inside seen long h =
+  listed_unfit : (n : ℕ) (bs : List ℕ) (types : List (Option Typ)) (k : ℕ) → n < length (document_terms cs) → bs ≡ visible_at (table_of text.scopes) n → length bs ≡ length types
+      → IsFirstNot ByNumber bs types k → IsFirstUnfitEntry (term_of (tree_in (document_terms cs) n)).place.scope (reverse types) d k
+  listed_unfit n bs types k inside seen long h =
       let sight = sight_numbered Stated n in
-      let types = map written_of entries in
-      let within : n < length (places_of [] Stated) = (let same = ap length (same_places cs) ∙ length-map (document_terms cs) (λ t. (term_of t).place) in omega (arith, same, inside)) in
-      let visible : map origin_of bs ≡ reverse sight = ap (map origin_of) (seen ∙ ap (λ t. visible_at t n) forms.are_scopes.same_table) ∙ visible_origins cs n in
-      let there : (place_numbered Stated n).scope ≡ (term_of (tree_in (document_terms cs) n)).place.scope = ap (λ (p : Place). p.scope) (number_told cs n) in
-      let size : length bs ≡ length types = sym long ∙ sym (length-map entries written_of) in
-      let inward = mapped_wrong ByNumber ByOrigin origin_of (reverse bs) (reverse types) k at_origin at_number (turned ByNumber bs types k size h) in
-      let own = subst (λ os. FirstWrong ByOrigin os (reverse types) k) (map-reverse origin_of bs ∙ ap reverse visible ∙ reverse-reverse sight) inward in
-      subst (λ s. IsFirstUnfitEntry s (context_of entries) d k) there
-      (first_unfit Stated Found sight (place_numbered Stated n).scope (context_of entries) d k (sight_origins cs n) (sight_least n within)
-      (subst (λ g. FirstWrong ByOrigin sight g k) (sym (context_reversed entries)) own))
+      let inward = mapped_wrong ByNumber ByOrigin origin_of (reverse bs) (reverse types) k at_origin at_number (turned ByNumber bs types k long h) in
+      let own = subst (λ os. FirstWrong ByOrigin os (reverse types) k) (map-reverse origin_of bs ∙ ap reverse (seen_are n bs seen) ∙ reverse-reverse sight) inward in
+      subst (λ s. IsFirstUnfitEntry s (reverse types) d k) (scope_is n)
+      (first_unfit Stated Found sight (place_numbered Stated n).scope (reverse types) d k (sight_origins cs n) (sight_least n (within n inside)) own)
 
   -- what is found wrong, if anything, by the numbers of the binders
-  pub unfit_is : (n : ℕ) (origins : List Origin) (bs : List ℕ) (entries : List (Option Ty)) (unfit : Option ℕ) → n < length (document_terms cs) → bs ≡ visible_at (table_of scopes) n → origins ≡ origins_of resolved
-      → length entries ≡ length bs
-      → MatchOption unfit (AllZip (FitsAt origins typing d) bs (map written_of entries)) (λ k. IsFirstNot (FitsAt origins typing d) bs (map written_of entries) k)
-      → MatchOption unfit (IsContext (term_of (tree_in (document_terms cs) n)).place.scope (context_of entries) d)
-      (λ k. IsFirstUnfitEntry (term_of (tree_in (document_terms cs) n)).place.scope (context_of entries) d k)
-  unfit_is n origins bs entries None inside seen are long h =
-      (listed_context n bs entries inside seen).0 (subst (λ os. AllZip (FitsAt os typing d) bs (map written_of entries)) are h)
-  unfit_is n origins bs entries (Some k) inside seen are long h =
-      listed_unfit n bs entries k inside seen long (subst (λ os. IsFirstNot (FitsAt os typing d) bs (map written_of entries) k) are h)
+  pub unfit_is : (n : ℕ) (bs : List ℕ) (types : List (Option Typ)) (unfit : Option ℕ) → n < length (document_terms cs) → bs ≡ visible_at (table_of text.scopes) n → length bs ≡ length types
+      → MatchOption unfit (AllZip ByNumber bs types) (λ k. IsFirstNot ByNumber bs types k)
+      → MatchOption unfit (IsContext (term_of (tree_in (document_terms cs) n)).place.scope (reverse types) d) (λ k. IsFirstUnfitEntry (term_of (tree_in (document_terms cs) n)).place.scope (reverse types) d k)
+  unfit_is n bs types None inside seen long h = listed_context n bs types inside seen h
+  unfit_is n bs types (Some k) inside seen long h = listed_unfit n bs types k inside seen long h

@@ -31,16 +31,14 @@ use Rattle.lam_query.specs.ProofTrees.{typing_tree_in}
 use Rattle.lam_query.specs.Steps.{typing, Step, steps_of, steps_of_each, last_steps, typing_proof, typing_proofs, premise_terms, with_side}
 use Rattle.lam_query.specs.WellTypedDocuments.{statements_in}
 use Rattle.lam_typing.specs.Contexts.{IsContext}
-use Rattle.lam_typing.specs.declared.typing.Typing.{Typing}
 use Rattle.lam_query.specs.Commands.{AreCommandsOfText}
 use Rattle.lam_query.specs.Sizes.{IsSizeFault}
 use Rattle.lam_query.proofs.OneAnswer.{one_document}
 use Rattle.lam_query.proofs.OneProof.{one_proof_of_steps}
 use Rattle.lam_query.proofs.ReadTrees.{tree_read}
 use Rattle.lam_query.proofs.RowsAndTerms.{span_told, names_told, number_told}
-use Rattle.lam_query.specs.Verified.{IsProofOf, IsProofAt, IsVerified}
-use Rattle.lam_query.specs.FirstFaults.{HasNames, MakeTree, entries_listed, span_in, last_conclusion, last_span}
-use Rattle.lam_query.specs.inner.Verifying.{AreFormsOf}
+use Rattle.lam_query.specs.Verified.{IsProofOf, IsVerified}
+use Rattle.lam_query.specs.FirstFaults.{HasContext, MakeTree, entries_listed, span_in, last_conclusion, last_span}
 
 -- the context of entries
 pub context_reversed : (entries : List (Option Ty)) → context_of entries ≡ reverse (map written_of entries)
@@ -83,7 +81,8 @@ pub row_written : (commands : List CommandTree) (scopes : Scopes) (n : ℕ) → 
     → (place_row_numbered (table_of scopes) n).derived ≡ false
 row_written commands scopes n h written = ap (λ t. (place_row_numbered t n).derived) h.same_table ∙ (row_told commands n).derived ∙ ap not written
 
-names_there : (commands : List CommandTree) (scopes : Scopes) (n : ℕ) → AreScopesOf scopes commands
+-- the names in scope, by the rows
+pub names_there : (commands : List CommandTree) (scopes : Scopes) (n : ℕ) → AreScopesOf scopes commands
     → map (λ b. shown_name (binder_numbered (table_of scopes) b).name) (visible_at (table_of scopes) n) ≡ names_seen (tree_in (document_terms commands) n)
 names_there commands scopes n h = ap (λ t. map (λ b. shown_name (binder_numbered t b).name) (visible_at t n)) h.same_table ∙ names_told commands n
 
@@ -97,67 +96,37 @@ pub typed_there : (commands : List CommandTree) (resolved : Resolved) (n : ℕ) 
     → e ≡ (term_of (tree_in (document_terms commands) n)).place.here
 typed_there commands resolved n e are is = is ∙ ap (λ ss. (place_numbered ss n).here) are ∙ ap (λ (p : Place). p.here) (number_told commands n)
 
--- the context of the entries that a derivation lists
-entries_are : (term : PlacedTree) (entries : List (Option Ty)) (derivation : Derivation) (d : Dialect) → map written_of entries ≡ map (λ x. x.type) derivation.context
-    → (h : IsProofOf term derivation d) → context_of entries ≡ h.entries
-entries_are term entries derivation d types h = context_reversed entries ∙ ap reverse (types ∙ h.types) ∙ reverse-reverse h.entries
-
--- what the tests say of a term is that the derivation is of it
-pub is_proof : (commands : List CommandTree) (scopes : Scopes) (resolved : Resolved) (analysed : Typing) (n : ℕ) (entries : List (Option Ty)) (derivation : Derivation) (made : TypingTree) (e : Term) (d : Dialect)
-    → AreFormsOf commands scopes resolved analysed d → map written_of entries ≡ map (λ x. x.type) derivation.context → e ≡ (place_numbered (statements_of resolved) n).here
-    → map (λ x. x.name) derivation.context ≡ map (λ b. shown_name (binder_numbered (table_of scopes) b).name) (visible_at (table_of scopes) n)
-    → IsContext (term_of (tree_in (document_terms commands) n)).place.scope (context_of entries) d
-    → (place_row_numbered (table_of scopes) n).derived ≡ false
-    → IsTyping (context_of entries) e made d → derivation.steps ≡ steps_of 0 (typing_proof (tree_in (document_terms commands) n) made)
-    → IsProofAt commands n derivation d
-is_proof commands scopes resolved analysed n entries derivation made e d forms types here names context in_text proof steps = record {
-  written = written_there commands scopes n forms.are_scopes in_text;
-  entries = context_of entries;
-  context = context;
-  names = names ∙ names_there commands scopes n forms.are_scopes;
-  types = sym types ∙ sym (reverse-reverse (map written_of entries)) ∙ ap reverse (sym (context_reversed entries));
-  tree = made;
-  proof = subst (λ t. IsTyping (context_of entries) t made d) (typed_there commands resolved n e forms.are_statements here) proof;
-  steps = steps;
-}
-
-pub names_are : (commands : List CommandTree) (scopes : Scopes) (n : ℕ) (derivation : Derivation) (d : Dialect) → AreScopesOf scopes commands → IsProofAt commands n derivation d
-    → map (λ x. x.name) derivation.context ≡ map (λ b. shown_name (binder_numbered (table_of scopes) b).name) (visible_at (table_of scopes) n)
-names_are commands scopes n derivation d forms h = h.names ∙ sym (names_there commands scopes n forms)
-
--- the same of names that are listed, and back
-pub names_listed : (commands : List CommandTree) (scopes : Scopes) (n : ℕ) (derivation : Derivation) → AreScopesOf scopes commands → HasNames (tree_in (document_terms commands) n) derivation
-    → map (λ x. x.name) derivation.context ≡ map (λ b. shown_name (binder_numbered (table_of scopes) b).name) (visible_at (table_of scopes) n)
-names_listed commands scopes n derivation forms h = h ∙ sym (names_there commands scopes n forms)
-
-pub listed_names : (commands : List CommandTree) (scopes : Scopes) (n : ℕ) (derivation : Derivation) → AreScopesOf scopes commands
-    → map (λ x. x.name) derivation.context ≡ map (λ b. shown_name (binder_numbered (table_of scopes) b).name) (visible_at (table_of scopes) n) → HasNames (tree_in (document_terms commands) n) derivation
-listed_names commands scopes n derivation forms h = h ∙ names_there commands scopes n forms
-
 -- the entries that are listed, as the checker of proofs takes them
 pub entries_are_listed : (entries : List (Option Ty)) (derivation : Derivation) → map written_of entries ≡ map (λ x. x.type) derivation.context → context_of entries ≡ entries_listed derivation
 entries_are_listed entries derivation types = context_reversed entries ∙ ap reverse types
 
-pub context_is : (commands : List CommandTree) (n : ℕ) (entries : List (Option Ty)) (derivation : Derivation) (d : Dialect) → map written_of entries ≡ map (λ x. x.type) derivation.context
-    → IsProofAt commands n derivation d → IsContext (term_of (tree_in (document_terms commands) n)).place.scope (context_of entries) d
-context_is commands n entries derivation d types h =
-    let term = tree_in (document_terms commands) n in
-    subst (λ g. IsContext (term_of term).place.scope g d) (sym (entries_are term entries derivation d types h)) h.context
+-- ---- a derivation about this term, and what the tests say of it
 
-pub steps_are : (commands : List CommandTree) (n : ℕ) (derivation : Derivation) (made : TypingTree) (d : Dialect) → MakeTree derivation.steps made → IsProofAt commands n derivation d
-    → derivation.steps ≡ steps_of 0 (typing_proof (tree_in (document_terms commands) n) made)
-steps_are commands n derivation made d makes h =
-    h.steps ∙ ap (λ t. steps_of 0 (typing_proof (tree_in (document_terms commands) n) t)) (one_tree derivation.steps made h.tree (tree_in (document_terms commands) n) makes h.steps)
+module _ (term : PlacedTree) (derivation : Derivation) (d : Dialect) where
+  entries_are : (h : IsProofOf term derivation d) → h.entries ≡ entries_listed derivation
+  entries_are h = sym (reverse-reverse h.entries) ∙ ap reverse (sym h.types)
 
-pub proof_is : (commands : List CommandTree) (scopes : Scopes) (resolved : Resolved) (analysed : Typing) (n : ℕ) (entries : List (Option Ty)) (derivation : Derivation) (made : TypingTree) (e : Term) (d : Dialect)
-    → AreFormsOf commands scopes resolved analysed d → map written_of entries ≡ map (λ x. x.type) derivation.context → e ≡ (place_numbered (statements_of resolved) n).here
-    → MakeTree derivation.steps made → IsProofAt commands n derivation d → IsTyping (context_of entries) e made d
-proof_is commands scopes resolved analysed n entries derivation made e d forms types here makes h =
-    let term = tree_in (document_terms commands) n in
-    let same = one_tree derivation.steps made h.tree term makes h.steps in
-    subst (λ t. IsTyping (context_of entries) e t d) same
-    (subst (λ t. IsTyping (context_of entries) t h.tree d) (sym (typed_there commands resolved n e forms.are_statements here))
-    (subst (λ g. IsTyping g (term_of term).place.here h.tree d) (sym (entries_are term entries derivation d types h)) h.proof))
+  pub context_is : IsProofOf term derivation d → IsContext (term_of term).place.scope (entries_listed derivation) d
+  context_is h = subst (λ g. IsContext (term_of term).place.scope g d) (entries_are h) h.context
+
+  pub proof_is : (made : TypingTree) → MakeTree derivation.steps made → IsProofOf term derivation d → IsTyping (entries_listed derivation) (term_of term).place.here made d
+  proof_is made makes h = rw (entries_are h, one_tree derivation.steps made h.tree term makes h.steps) at h.proof
+
+  pub steps_are : (made : TypingTree) → MakeTree derivation.steps made → IsProofOf term derivation d → derivation.steps ≡ steps_of 0 (typing_proof term made)
+  steps_are made makes h = h.steps ∙ ap (λ t. steps_of 0 (typing_proof term t)) (one_tree derivation.steps made h.tree term makes h.steps)
+
+  pub is_proof : (made : TypingTree) → (term_of term).is_written ≡ true → HasContext term derivation d → IsTyping (entries_listed derivation) (term_of term).place.here made d
+      → derivation.steps ≡ steps_of 0 (typing_proof term made) → IsProofOf term derivation d
+  is_proof made written has proof steps = record {
+    written = written;
+    entries = entries_listed derivation;
+    context = has.context;
+    names = has.names;
+    types = sym (reverse-reverse (map (λ x. x.type) derivation.context));
+    tree = made;
+    proof = proof;
+    steps = steps;
+  }
 
 -- ---- lists that are compared one by one
 

@@ -4,12 +4,11 @@
 //! that it may have there, the steps are built into a proof tree that the proof checker accepts for that term, and the steps of
 //! the tree, with the ranges of the term's parts, must equal those given. The first of these that fails is named.
 ghost use Rattle.std.specs.List.{AllZip};
-ghost use Rattle.std.specs.Prelude.{◌≡◌, ◌<◌, ◌↔◌, IsTrue, List, [], length, Some, None, map, reverse, IfOk, MatchOption, false};
+ghost use Rattle.std.specs.Prelude.{◌≡◌, ◌<◌, ◌↔◌, IsTrue, List, [], length, Some, None, map, IfOk, MatchOption, false};
 ghost use Rattle.lam_rules.specs.TermViews.{term_of as core_of, written_of};
-ghost use Rattle.lam_rules.specs.Typing.{IsTyping, TypingTree};
-ghost use Rattle.lam_rules.specs.TypingViews.{context_of, typing_tree_of};
+ghost use Rattle.lam_rules.specs.Typing.{IsTyping};
+ghost use Rattle.lam_rules.specs.TypingViews.{typing_tree_of};
 ghost use Rattle.lam_rules.specs.TypeViews.{typ_of};
-ghost use Rattle.lam_rules.specs.declared.types.Ty.{Ty as RustTy};
 ghost use Rattle.lam_scope.specs.Names.{shown_name};
 ghost use Rattle.lam_scope.specs.Places.{places_of};
 ghost use Rattle.lam_scope.specs.PlacedTerms.{document_terms, term_of, tree_in};
@@ -20,23 +19,39 @@ ghost use Rattle.lam_syntax.specs.Trees.{CommandTree};
 ghost use Rattle.lam_typing.specs.Contexts.{IsContext};
 ghost use Rattle.lam_query.specs.Steps.{typing, subtyping, steps_of, typing_proof};
 ghost use Rattle.lam_query.specs.Views.{derivation_of, entry_of, step_of};
-ghost use Rattle.lam_query.specs.FirstFaults.{DifferFirst, IsFirstUnfitEntry, IsResult, MakeTree, entries_listed, last_span, span_in};
+ghost use Rattle.lam_query.specs.FirstFaults.{DifferFirst, IsFirstUnfitEntry, IsResult, entries_listed, last_span, span_in};
 ghost use Rattle.lam_query.specs.Judgements.{IsFirstFailing, judgements};
-ghost use Rattle.lam_query.specs.Levels.{AreTooDeep};
 ghost use Rattle.lam_typing.specs.Fitting.{FitsAt};
-ghost use Rattle.lam_query.specs.inner.Verifying.{AreFormsOf, IsFirstNot, IsResultAt, IsResultIn};
+ghost use Rattle.lam_query.specs.inner.Verifying.{IsClaim, IsFirstNot, IsResultAt, IsResultIn, IsTextOf};
 
 use crate::answers::{Derivation, FirstFault, Step};
 use crate::commands::commands_of;
 use crate::first_faults::{first_misplaced, is_too_deep};
 use crate::rebuilding::proof_of_steps;
 use crate::steps::steps_of_proof;
+use crate::typings::{Types, types_of};
 use crate::wrong_steps::{copy_of_entry, wrong_step};
 use lam_rules::{Core, Dialect, SubRule, Ty, TypeProof, TypeRule, check_type, same};
-use lam_scope::{Binder, Origin, Place, Resolved, ScopeFault, Scopes, bind, resolve};
+use lam_scope::{Binder, Origin, Place, Scopes, bind};
 use lam_token::Span;
-use lam_typing::{Typing, TypingFault, analyse};
+use lam_typing::Typing;
 use std::alloc::{AllocError, Global};
+
+/// A text whose names are bound and whose terms are typed.
+#[derive(Drop)]
+struct TypedText {
+    scopes: Scopes,
+    types: Types,
+    dialect: Dialect,
+}
+
+/// A derivation, with the types of its context and the proof made of its steps.
+#[derive(Clone, Copy)]
+struct Claim<'a> {
+    derivation: &'a Derivation,
+    entries: &'a [Option<Ty>],
+    proof: &'a TypeProof,
+}
 
 /// Returns the first error in a derivation, or `None` if it is about a term of the text.
 pub fn first_fault(
@@ -56,40 +71,39 @@ pub fn first_fault(
     if let Some(number) = first_misplaced(alloc, &derivation.steps)? {
         return Ok(Some(FirstFault::Premises(number)));
     }
-    match proof_of_steps(alloc, &derivation.steps)? {
-        Some(proof) => fault_in_text(alloc, text, derivation, &proof, dialect),
-        None => Ok(Some(FirstFault::Loose(derivation.steps.len() - 1))),
-    }
+    let Some(proof) = proof_of_steps(alloc, &derivation.steps)? else {
+        return Ok(Some(FirstFault::Loose(derivation.steps.len() - 1)));
+    };
+    let entries = entries_of(alloc, &derivation.context)?;
+    let claim = Claim {
+        derivation,
+        entries: &entries,
+        proof: &proof,
+    };
+    fault_in_text(alloc, text, &claim, dialect)
 }
 
-/// The first error in a derivation whose steps are those of this proof.
+/// The first error in a claim about a text.
 fn fault_in_text(
     alloc: Global,
     text: &str,
-    derivation: &Derivation,
-    proof: &TypeProof,
+    claim: &Claim<'_>,
     dialect: Dialect,
 ) -> Result<Option<FirstFault>, AllocError>
-    requires not_deep { AreTooDeep (map step_of derivation.now.steps.items) → ⊥ }
-    requires tree { MakeTree (derivation_of derivation.now).steps (typing_tree_of proof.now) }
-    ensures { IfOk result (λ fault. IsResult text.now (derivation_of derivation.now) dialect fault) }
+    requires { IsClaim claim.now }
+    ensures { IfOk result (λ fault. IsResult text.now (derivation_of claim.now.derivation.now) dialect fault) }
 {
     let commands = commands_of(alloc, text)?;
     let scopes = bind(alloc, &commands)?;
-    let resolved = match resolve(alloc, &commands, &scopes) {
-        Ok(resolved) => resolved,
-        Err(ScopeFault::TooLarge(_)) => return Ok(Some(FirstFault::TooLarge)),
-        Err(ScopeFault::Memory) => return Err(AllocError),
+    let Some(types) = types_of(alloc, &commands, &scopes, dialect)? else {
+        return Ok(Some(FirstFault::TooLarge));
     };
-    let typing = match analyse(alloc, &resolved, dialect) {
-        Ok(typing) => typing,
-        Err(TypingFault::TooLarge(_)) => return Ok(Some(FirstFault::TooLarge)),
-        Err(TypingFault::Memory) => return Err(AllocError),
+    let typed = TypedText {
+        scopes,
+        types,
+        dialect,
     };
-    let entries = entries_of(alloc, &derivation.context)?;
-    fault_of_terms(
-        alloc, &scopes, &resolved, &typing, derivation, &entries, proof, dialect,
-    )
+    typed.fault_of(alloc, claim)
 }
 
 /// The types of a context.
@@ -107,109 +121,122 @@ fn entries_of(
     Ok(entries)
 }
 
-/// The first error in a derivation as one about the first term of the text with the range of its last step, or `None` if it is
-/// about a term with that range. `entries` are the types of its context, and `proof` is the tree of its steps.
-fn fault_of_terms(
-    alloc: Global,
-    scopes: &Scopes,
-    resolved: &Resolved,
-    typing: &Typing,
-    derivation: &Derivation,
-    entries: &[Option<Ty>],
-    proof: &TypeProof,
-    dialect: Dialect,
-) -> Result<Option<FirstFault>, AllocError>
-    requires entries { map written_of entries.now ≡ map (λ e. e.type) (derivation_of derivation.now).context }
-    requires tree { MakeTree (derivation_of derivation.now).steps (typing_tree_of proof.now) }
-    ensures { IfOk result (λ fault. (commands : List CommandTree) → AreFormsOf commands scopes.now resolved.now typing.now dialect
-        → IsResultIn commands (derivation_of derivation.now) dialect fault) }
-{
-    let mut first = None;
-    for i in 0..resolved.place_count() {
-        let place = Place(i);
-        if !ends_at(scopes, place, &derivation.steps) {
-            continue;
+impl TypedText {
+    /// The first error in a claim about the first term with the range of the last step, or `None` if it is about a term with that
+    /// range.
+    fn fault_of(&self, alloc: Global, claim: &Claim<'_>) -> Result<Option<FirstFault>, AllocError>
+        requires { IsClaim claim.now }
+        ensures { IfOk result (λ fault. (commands : List CommandTree) → IsTextOf commands self.now
+            → IsResultIn commands (derivation_of claim.now.derivation.now) self.now.dialect fault) }
+    {
+        let mut first = None;
+        for i in 0..self.types.resolved.place_count() {
+            let place = Place(i);
+            if !ends_at(&self.scopes, place, &claim.derivation.steps) {
+                continue;
+            }
+            let Some(fault) = self.fault_at(alloc, claim, place)? else {
+                return Ok(None);
+            };
+            first = Some(first.unwrap_or(fault));
         }
-        let found = fault_of_term(
-            alloc, scopes, resolved, typing, derivation, entries, proof, place, dialect,
-        )?;
-        let Some(fault) = found else {
-            return Ok(None);
+        let last = claim.derivation.steps.len().saturating_sub(1);
+        Ok(Some(first.unwrap_or(FirstFault::NoTerm(last))))
+    }
+
+    /// The first error in a claim about the term with this id, or `None` if it is about that term.
+    fn fault_at(
+        &self,
+        alloc: Global,
+        claim: &Claim<'_>,
+        place: Place,
+    ) -> Result<Option<FirstFault>, AllocError>
+        requires claim { IsClaim claim.now }
+        requires written { (place_row_numbered (table_of self.now.scopes) place.0).derived ≡ false }
+        requires inside { place.0 < length (places_of [] (statements_of self.now.types.resolved)) }
+        ensures { IfOk result (λ fault. (commands : List CommandTree) → IsTextOf commands self.now
+            → IsResultAt (tree_in (document_terms commands) place.0) (derivation_of claim.now.derivation.now) self.now.dialect fault) }
+    {
+        if !has_names(alloc, &self.scopes, place, &claim.derivation.context)? {
+            return Ok(Some(FirstFault::Names));
+        }
+        if let Some(number) = self.unfit_entry(alloc, claim, place)? {
+            return Ok(Some(FirstFault::Entry(number)));
+        }
+        let term = self.types.resolved.core_at(place);
+        if !check_type(claim.entries, term, claim.proof, self.dialect) {
+            let number = claim.first_wrong_step(alloc, term, self.dialect)?;
+            return Ok(Some(FirstFault::Step(number)));
+        }
+        let steps = claim.steps_about(alloc, &self.scopes, place)?;
+        match first_other(&claim.derivation.steps, &steps) {
+            Some(number) => Ok(Some(FirstFault::Range(number))),
+            None => Ok(None),
+        }
+    }
+
+    /// The index of the first entry, outermost first, that does not fit its binder, or `None` if the entries are a context of the
+    /// term.
+    fn unfit_entry(
+        &self,
+        alloc: Global,
+        claim: &Claim<'_>,
+        place: Place,
+    ) -> Result<Option<usize>, AllocError>
+        requires claim { IsClaim claim.now }
+        requires long { length claim.now.entries.now ≡ length (visible_at (table_of self.now.scopes) place.0) }
+        ensures { IfOk result (λ unfit. (commands : List CommandTree) → IsTextOf commands self.now
+            → place.0 < length (document_terms commands)
+            → let scope = (term_of (tree_in (document_terms commands) place.0)).place.scope in
+            let listed = entries_listed (derivation_of claim.now.derivation.now) in
+            MatchOption unfit (IsContext scope listed self.now.dialect) (λ number. IsFirstUnfitEntry scope listed self.now.dialect number)) }
+    {
+        let binders = self.scopes.visible_at(alloc, place)?;
+        let origins = self.types.resolved.origins();
+        first_unfit(
+            &self.types.typing,
+            origins,
+            &binders,
+            claim.entries,
+            self.dialect,
+        )
+    }
+}
+
+impl Claim<'_> {
+    /// The index of the first step that does not follow by its rule, if the proof is not valid for the term.
+    fn first_wrong_step(
+        &self,
+        alloc: Global,
+        term: &Core,
+        dialect: Dialect,
+    ) -> Result<usize, AllocError>
+        requires claim { IsClaim self.now }
+        requires wrong { IsTyping (entries_listed (derivation_of self.now.derivation.now)) (core_of term.now) (typing_tree_of self.now.proof.now) dialect → ⊥ }
+        ensures { let all = judgements (entries_listed (derivation_of self.now.derivation.now)) (core_of term.now) (typing_tree_of self.now.proof.now) in
+            IfOk result (λ number. IsFirstFailing dialect 0 all number) }
+    {
+        let mut context = entries_of(alloc, &self.derivation.context)?;
+        wrong_step(alloc, &mut context, term, self.proof, 0, dialect)
+    }
+
+    /// The steps that a derivation with this proof would have if it were about this term. They are given the types of a proof of
+    /// their own.
+    fn steps_about(
+        &self,
+        alloc: Global,
+        scopes: &Scopes,
+        place: Place,
+    ) -> Result<Vec<Step>, AllocError>
+        requires { IsClaim self.now }
+        ensures { IfOk result (λ steps. (commands : List CommandTree) → AreScopesOf scopes.now commands
+            → map step_of steps.items ≡ steps_of 0 (typing_proof (tree_in (document_terms commands) place.0) (typing_tree_of self.now.proof.now))) }
+    {
+        let Some(proof) = proof_of_steps(alloc, &self.derivation.steps)? else {
+            unreachable!();
         };
-        first = Some(first.unwrap_or(fault));
+        steps_of_proof(alloc, scopes, place, proof)
     }
-    let last = derivation.steps.len().saturating_sub(1);
-    Ok(Some(first.unwrap_or(FirstFault::NoTerm(last))))
-}
-
-/// The first error in a derivation as one about the term with this id, or `None` if it is about that term.
-fn fault_of_term(
-    alloc: Global,
-    scopes: &Scopes,
-    resolved: &Resolved,
-    typing: &Typing,
-    derivation: &Derivation,
-    entries: &[Option<Ty>],
-    proof: &TypeProof,
-    place: Place,
-    dialect: Dialect,
-) -> Result<Option<FirstFault>, AllocError>
-    requires written { (place_row_numbered (table_of scopes.now) place.0).derived ≡ false }
-    requires inside { place.0 < length (places_of [] (statements_of resolved.now)) }
-    requires entries { map written_of entries.now ≡ map (λ e. e.type) (derivation_of derivation.now).context }
-    requires tree { MakeTree (derivation_of derivation.now).steps (typing_tree_of proof.now) }
-    ensures { IfOk result (λ fault. (commands : List CommandTree) → AreFormsOf commands scopes.now resolved.now typing.now dialect
-        → IsResultAt (tree_in (document_terms commands) place.0) (derivation_of derivation.now) dialect fault) }
-{
-    if !has_names(alloc, scopes, place, &derivation.context)? {
-        return Ok(Some(FirstFault::Names));
-    }
-    if let Some(number) = unfit_entry(alloc, scopes, resolved, typing, place, entries, dialect)? {
-        return Ok(Some(FirstFault::Entry(number)));
-    }
-    let term = resolved.core_at(place);
-    if !check_type(entries, term, proof, dialect) {
-        let number = wrong_step_of(alloc, derivation, term, proof, dialect)?;
-        return Ok(Some(FirstFault::Step(number)));
-    }
-    let steps = steps_about(alloc, scopes, place, derivation)?;
-    match first_other(&derivation.steps, &steps) {
-        Some(number) => Ok(Some(FirstFault::Range(number))),
-        None => Ok(None),
-    }
-}
-
-/// The steps that a derivation with this tree would have if it were about this term. They are given the types of a tree of their own.
-fn steps_about(
-    alloc: Global,
-    scopes: &Scopes,
-    place: Place,
-    derivation: &Derivation,
-) -> Result<Vec<Step>, AllocError>
-    requires { (tree : TypingTree) × MakeTree (derivation_of derivation.now).steps tree }
-    ensures { IfOk result (λ steps. (commands : List CommandTree) (tree : TypingTree) → AreScopesOf scopes.now commands → MakeTree (derivation_of derivation.now).steps tree
-        → map step_of steps.items ≡ steps_of 0 (typing_proof (tree_in (document_terms commands) place.0) tree)) }
-{
-    let Some(proof) = proof_of_steps(alloc, &derivation.steps)? else {
-        unreachable!();
-    };
-    steps_of_proof(alloc, scopes, place, proof)
-}
-
-/// The index of the first step that does not follow by its rule, in a derivation whose tree is not valid for the term.
-fn wrong_step_of(
-    alloc: Global,
-    derivation: &Derivation,
-    term: &Core,
-    proof: &TypeProof,
-    dialect: Dialect,
-) -> Result<usize, AllocError>
-    requires tree { MakeTree (derivation_of derivation.now).steps (typing_tree_of proof.now) }
-    requires wrong { IsTyping (entries_listed (derivation_of derivation.now)) (core_of term.now) (typing_tree_of proof.now) dialect → ⊥ }
-    ensures { IfOk result (λ number. IsFirstFailing dialect 0 (judgements (entries_listed (derivation_of derivation.now)) (core_of term.now) (typing_tree_of proof.now)) number) }
-{
-    let mut context = entries_of(alloc, &derivation.context)?;
-    wrong_step(alloc, &mut context, term, proof, 0, dialect)
 }
 
 /// Whether the term with this id is in the text, and the last step is one of typing and has its span.
@@ -264,27 +291,6 @@ fn are_named(scopes: &Scopes, binders: &[Binder], context: &[(String, Option<Ty>
         }
     }
     true
-}
-
-/// The index of the first entry of a context, outermost first, that does not fit its binder, or `None` if the entries are a
-/// context of a subterm.
-fn unfit_entry(
-    alloc: Global,
-    scopes: &Scopes,
-    resolved: &Resolved,
-    typing: &Typing,
-    place: Place,
-    entries: &[Option<Ty>],
-    dialect: Dialect,
-) -> Result<Option<usize>, AllocError>
-    requires { length entries.now ≡ length (visible_at (table_of scopes.now) place.0) }
-    ensures { IfOk result (λ unfit. (commands : List CommandTree) → AreFormsOf commands scopes.now resolved.now typing.now dialect
-        → place.0 < length (document_terms commands)
-        → let scope = (term_of (tree_in (document_terms commands) place.0)).place.scope in
-        MatchOption unfit (IsContext scope (context_of entries.now) dialect) (λ number. IsFirstUnfitEntry scope (context_of entries.now) dialect number)) }
-{
-    let binders = scopes.visible_at(alloc, place)?;
-    first_unfit(typing, resolved.origins(), &binders, entries, dialect)
 }
 
 fn first_unfit(

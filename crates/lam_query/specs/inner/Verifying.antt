@@ -1,29 +1,32 @@
 -- Intermediate facts of the verification. For private functions alone.
-use Rattle.std.specs.Prelude.{◌≡◌, ◌<◌, ℕ, List, [], length, get_or, map, take, Option, Some, None}
+use Rattle.std.specs.Prelude.{◌≡◌, ◌<◌, ℕ, List, length, get_or, map, take, Option, Some, None}
 use Rattle.std.specs.List.{AllZip}
+use Rattle.lam_rules.specs.TermViews.{written_of}
+use Rattle.lam_rules.specs.TypingViews.{typing_tree_of}
 use Rattle.lam_rules.specs.declared.rules.Dialect.{Dialect}
 use Rattle.lam_syntax.specs.Trees.{CommandTree}
-use Rattle.lam_scope.specs.Places.{places_of}
 use Rattle.lam_scope.specs.PlacedTerms.{PlacedTree, document_terms}
-use Rattle.lam_scope.specs.Tables.{table}
-use Rattle.lam_scope.specs.Views.{AreScopesOf, statements_of, origins_of}
-use Rattle.lam_scope.specs.declared.resolved.Resolved.{Resolved}
-use Rattle.lam_scope.specs.declared.scopes.Scopes.{Scopes}
+use Rattle.lam_scope.specs.Views.{AreScopesOf}
 use Rattle.lam_query.specs.Derivations.{Derivation}
-use Rattle.lam_query.specs.WellTypedDocuments.{statements_in}
-use Rattle.lam_typing.specs.Typings.{IsAnalysis, AreEntries}
-use Rattle.lam_typing.specs.declared.typing.Typing.{Typing}
-use Rattle.lam_query.specs.FirstFaults.{IsFaultAt, IsFaultIn}
+use Rattle.lam_query.specs.FirstFaults.{IsFaultAt, IsFaultIn, MakeTree}
+use Rattle.lam_query.specs.Levels.{AreTooDeep}
 use Rattle.lam_query.specs.Verified.{IsProofAt, IsProofOf}
 use Rattle.lam_query.specs.declared.answers.FirstFault.{FirstFault}
+use Rattle.lam_query.specs.Views.{derivation_of}
+use Rattle.lam_query.specs.declared.verify.Claim.{Claim}
+use Rattle.lam_query.specs.declared.verify.TypedText.{TypedText}
+use Rattle.lam_query.specs.inner.Typings.{AreTypesOf}
 
--- the scopes, the nameless form and the types of these commands
-pub record AreFormsOf (commands : List CommandTree) (scopes : Scopes) (resolved : Resolved) (analysed : Typing) (d : Dialect) : Type 0 where
-  pub are_scopes : AreScopesOf scopes commands
-  pub are_statements : statements_of resolved ≡ statements_in commands
-  pub are_origins : origins_of resolved ≡ map (λ b. b.origin) (table commands).binders
-  pub analysis : IsAnalysis (places_of [] (statements_of resolved)) analysed d
-  pub entries : AreEntries (statements_of resolved) (origins_of resolved) analysed
+-- the text has these commands
+pub record IsTextOf (commands : List CommandTree) (text : TypedText) : Type 0 where
+  pub are_scopes : AreScopesOf text.scopes commands
+  pub are_types : AreTypesOf commands text.types text.dialect
+
+-- The types are those of the context, and the proof is the one that the steps make, on at most 16,384 levels.
+pub record IsClaim (claim : Claim) : Type 0 where
+  pub not_deep : AreTooDeep (derivation_of claim.derivation.now).steps → ⊥
+  pub types : map written_of claim.entries.now ≡ map (λ e. e.type) (derivation_of claim.derivation.now).context
+  pub tree : MakeTree (derivation_of claim.derivation.now).steps (typing_tree_of claim.proof.now)
 
 -- The derivation is about one of the terms of these commands.
 pub record IsOfSomeTerm (commands : List CommandTree) (derivation : Derivation) (d : Dialect) : Type 0 where
