@@ -17,11 +17,12 @@ ghost use Rattle.lam_scope.specs.TableViews.{binder_number};
 ghost use Rattle.lam_scope.specs.Views.{AreScopesOf, table_of, statements_of};
 ghost use Rattle.lam_syntax.specs.Trees.{CommandTree};
 ghost use Rattle.lam_typing.specs.Contexts.{IsContext};
+ghost use Rattle.lam_typing.specs.Fitting.{FitsAt};
+ghost use Rattle.lam_typing.specs.Typings.{dialect_of};
 ghost use Rattle.lam_query.specs.Steps.{typing, subtyping, steps_of, typing_proof};
 ghost use Rattle.lam_query.specs.Views.{derivation_of, entry_of, step_of};
 ghost use Rattle.lam_query.specs.FirstFaults.{DifferFirst, IsFirstUnfitEntry, IsResult, entries_listed, last_span, span_in};
 ghost use Rattle.lam_query.specs.Judgements.{IsFirstFailing, judgements};
-ghost use Rattle.lam_typing.specs.Fitting.{FitsAt};
 ghost use Rattle.lam_query.specs.inner.Verifying.{IsClaim, IsFirstNot, IsResultAt, IsResultIn, IsTextOf};
 
 use crate::answers::{Derivation, FirstFault, Step};
@@ -193,13 +194,7 @@ impl TypedText {
     {
         let binders = self.scopes.visible_at(alloc, place)?;
         let origins = self.types.resolved.origins();
-        first_unfit(
-            &self.types.typing,
-            origins,
-            &binders,
-            claim.entries,
-            self.dialect,
-        )
+        first_unfit(&self.types.typing, origins, &binders, claim.entries)
     }
 }
 
@@ -298,16 +293,15 @@ fn first_unfit(
     origins: &[Origin],
     binders: &[Binder],
     entries: &[Option<Ty>],
-    dialect: Dialect,
 ) -> Result<Option<usize>, AllocError>
     requires { length entries.now ≡ length binders.now }
-    ensures { IfOk result (λ unfit. let fits = FitsAt origins.now typing.now dialect in
+    ensures { IfOk result (λ unfit. let fits = FitsAt origins.now typing.now (dialect_of typing.now) in
         MatchOption unfit (AllZip fits (map binder_number binders.now) (map written_of entries.now))
         (λ number. IsFirstNot fits (map binder_number binders.now) (map written_of entries.now) number)) }
 {
     for i in 0..binders.len() {
         let entry = &entries[i];
-        if !typing.fits(origins, binders[i], entry, dialect)? {
+        if !typing.fits(origins, binders[i], entry)? {
             return Ok(Some(i));
         }
     }

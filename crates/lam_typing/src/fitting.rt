@@ -5,6 +5,7 @@ ghost use Rattle.lam_rules.specs.TermViews.{written_of};
 ghost use Rattle.lam_rules.specs.TypeViews.{typ_of};
 ghost use Rattle.lam_rules.specs.Types.{IsWellFormed};
 ghost use Rattle.lam_typing.specs.Fitting.{FitsAt};
+ghost use Rattle.lam_typing.specs.Typings.{dialect_of};
 
 use crate::typing::Typing;
 use lam_rules::{Dialect, Ty, same, wf};
@@ -19,9 +20,8 @@ impl Typing {
         origins: &[Origin],
         binder: Binder,
         entry: &Option<Ty>,
-        dialect: Dialect,
     ) -> Result<bool, AllocError>
-        ensures { IfOk result (λ does. IsTrue does ↔ FitsAt origins.now self.now dialect binder.0 (written_of entry.now)) }
+        ensures { IfOk result (λ does. IsTrue does ↔ FitsAt origins.now self.now (dialect_of self.now) binder.0 (written_of entry.now)) }
     {
         let Some(number) = self.type_of_binder(binder) else {
             return Ok(entry.is_none());
@@ -32,7 +32,7 @@ impl Typing {
         self.table().types_differ();
         let least = self.table().tree(number)?;
         match origins.get(binder.0) {
-            Some(Origin::Term(_)) => Ok(is_above(&least, ty, dialect)),
+            Some(Origin::Term(_)) => Ok(is_above(&least, ty, self.dialect)),
             _ => Ok(same(&least, ty)),
         }
     }

@@ -12,5 +12,5 @@ returns c =
     let seen = ap (map binder_number) c.deref.ensures.value ∙ c.in_ok-binders.ensures in
     let long = ap length seen ∙ sym c.requires.long ∙ sym (length-map c.args.claim.now.entries.now written_of) ∙ ap length types in
     if_ok c.first_unfit.result
-    (λ unfit h commands is inside. unfit_is commands c.args.self.now is c.args.place.0 _ _ unfit inside seen long (rw (c.origins-origins.ensures, types) at h))
+    (λ unfit h commands is inside. unfit_is commands c.args.self.now is c.args.place.0 _ _ unfit inside seen long (rw (c.origins-origins.ensures, is.are_types.dialect, types) at h))
     c.first_unfit.ensures
