@@ -41,12 +41,12 @@ use Rattle.lam_query.specs.Verified.{IsProofOf, IsVerified}
 use Rattle.lam_query.specs.FirstFaults.{HasContext, MakeTree, entries_listed, span_in, last_conclusion, last_span}
 
 -- the context of entries
-pub context_reversed : (entries : List (Option Ty)) → context_of entries ≡ reverse (map written_of entries)
+context_reversed : (entries : List (Option Ty)) → context_of entries ≡ reverse (map written_of entries)
 context_reversed [] = refl
 context_reversed (e ∷ entries) = ap (λ g. g ++ written_of e ∷ []) (context_reversed entries) ∙ sym (reverse-append (written_of e ∷ []) (map written_of entries))
 
 -- the tree that steps make is that of each proof of typing that has these steps
-pub one_tree : (steps : List Step) (made tree : TypingTree) (term : PlacedTree) → MakeTree steps made → steps ≡ steps_of 0 (typing_proof term tree) → tree ≡ made
+one_tree : (steps : List Step) (made tree : TypingTree) (term : PlacedTree) → MakeTree steps made → steps ≡ steps_of 0 (typing_proof term tree) → tree ≡ made
 one_tree steps made tree term h is =
     let same = one_proof_of_steps (typing_proof term tree) h.whole (sym is ∙ h.are_steps) in
     same_Some tree made (sym (tree_read term tree) ∙ ap typing_tree_in same ∙ h.is_tree)
