@@ -32,7 +32,7 @@ use lines::shown_line;
 use paint::Paint;
 use reports::{Checked, report};
 use sent::tell_verdicts;
-use std::alloc::{AllocError, Global};
+use std::alloc::AllocError;
 use std::env::{self, Env};
 use std::fmt::Display;
 use std::io::{self, ErrorKind, IsTerminal};
@@ -193,7 +193,7 @@ fn check<R: AllocGlobal + Files + Input + Print + Eprint>(
             let found = why_json(rt.alloc(), shown_name(name), &text, place, asked.dialect);
             tell_found(rt, name, &text, place, found)
         }
-        Shown::Verdicts => tell_verdicts(rt, asked, name, &text),
+        Shown::Verdicts => tell_verdicts(rt, asked, shown_name(name), &text),
         Shown::Derivation(place, form) => {
             let found = drawing(rt.alloc(), &text, place, asked.dialect, form);
             tell_found(rt, name, &text, place, found)

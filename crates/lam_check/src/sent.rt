@@ -4,8 +4,7 @@ use crate::files::{ReadFault, text_of};
 use crate::lines::shown_line;
 use crate::verdicts::{sent_of, verdict};
 use crate::{
-    DEVICE, FAULTLESS, FAULTY, STANDARD_INPUT, shown_name, tell, tell_checked, tell_of,
-    want_of_memory,
+    DEVICE, FAULTLESS, FAULTY, STANDARD_INPUT, tell, tell_checked, tell_of, want_of_memory,
 };
 use serde_json::{Category, Error, Value};
 use std::rt::Files;
@@ -13,19 +12,6 @@ use std::rt::Files;
 /// Verifies the derivations in a file, which are the whole file or one on each line. Prints the results, and returns the exit
 /// status for them.
 pub fn tell_verdicts<R: AllocGlobal + Files + Input + Print + Eprint>(
-    rt: &R,
-    asked: Asked<'_>,
-    name: &str,
-    text: &str,
-) -> u8 {
-    match shown_line(rt.alloc(), shown_name(name)) {
-        Ok(shown) => tell_all(rt, asked, &shown, text),
-        Err(_) => want_of_memory(rt),
-    }
-}
-
-/// The same, given the name of the file as it is printed.
-fn tell_all<R: AllocGlobal + Files + Input + Print + Eprint>(
     rt: &R,
     asked: Asked<'_>,
     name: &str,
@@ -115,7 +101,10 @@ fn tell_no_json<R: AllocGlobal + Print + Eprint>(rt: &R, name: &str, fault: &Err
 
 /// Prints a problem with a file, and returns the exit status.
 fn tell_line<R: AllocGlobal + Print + Eprint>(rt: &R, name: &str, what: &str) -> u8 {
-    match format!(in rt.alloc(); "{name}: {what}\n") {
+    let Ok(shown) = shown_line(rt.alloc(), name) else {
+        return want_of_memory(rt);
+    };
+    match format!(in rt.alloc(); "{shown}: {what}\n") {
         Ok(line) => FAULTY.max(tell(rt, &line)),
         Err(_) => want_of_memory(rt),
     }
