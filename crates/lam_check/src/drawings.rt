@@ -3,7 +3,7 @@ ghost use Rattle.std.specs.Prelude.{◌≡◌, ◌+◌, ◌*◌, ◌^◌, ◌<�
 ghost use Rattle.std.specs.List.{repeat};
 ghost use Rattle.lam_query.specs.Steps.{Proof, Proofs, steps_of, steps_before, number_of_steps, last_steps};
 ghost use Rattle.lam_query.specs.Views.{step_of, derivation_of, StepStandsIn};
-ghost use Rattle.lam_check.specs.Drawings.{claim_text, rule_text, before, behind, html_head, latex_claim, drawn, drawn_each, IsDerivedAt, IsDrawnAt, latex_step, arity, axiom_text, written, pack_text};
+ghost use Rattle.lam_check.specs.Drawings.{claim_text, rule_text, before, behind, html_head, latex_claim, drawn, drawn_each, IsDerivedAt, IsDrawnAt, latex_step, arity, axiom_text, pack_text};
 ghost use Rattle.lam_check.specs.Terms.{first_role};
 ghost use Rattle.lam_query.specs.Verified.{IsVerified};
 ghost use Rattle.lam_check.specs.inner.Drawing.{Stands, AllStand};
@@ -31,9 +31,15 @@ pub fn drawing(
     let Some(derived) = derivation_at(alloc, text, place, dialect)? else {
         return Ok(None);
     };
+    let picture = Picture {
+        alloc,
+        form,
+        text,
+        steps: &derived.steps,
+    };
     let mut out = String::new(alloc);
     out.push_str(form.head())?;
-    push_proof(alloc, &mut out, form, text, &derived.steps)?;
+    picture.push_proof(&mut out)?;
     out.push_str(form.tail())?;
     Ok(Some(out))
 }
@@ -58,99 +64,178 @@ pub fn derivation_at(
     derivation(alloc, text, offset, dialect)
 }
 
-/// Draws the proof that has these steps.
-fn push_proof(
+/// A proof to be drawn: its steps, the text that they are about, and the form of the drawing.
+#[derive(Drop)]
+struct Picture<'a> {
     alloc: Global,
-    out: &mut String,
     form: Form,
-    text: &str,
-    steps: &[Step],
-) -> Result<(), AllocError>
-    requires { All (StepStandsIn text.now) steps.now }
-    ensures { OnOk result ((p : Proof) → map step_of steps.now ≡ steps_of 0 p → string_bytes out.new ≡ string_bytes out.old ++ drawn form text.now 0 Role.Other p) }
-{
-    if steps.is_empty() {
-        return Ok(());
-    }
-    push_tree(
-        alloc,
-        out,
-        form,
-        text,
-        steps,
-        steps.len() - 1,
-        0,
-        Role::Other,
-    )
+    text: &'a str,
+    steps: &'a [Step],
 }
 
-/// Draws the proof that ends in the step with this index, about a term with this role.
-#[cycle(tree)]
-fn push_tree(
-    alloc: Global,
-    out: &mut String,
-    form: Form,
-    text: &str,
-    steps: &[Step],
-    number: usize,
-    depth: usize,
-    role: Role,
-) -> Result<(), AllocError>
-    requires inside { number < length steps.now }
-    requires deep { depth + number < 2 ^ 62 }
-    requires whole_characters { All (StepStandsIn text.now) steps.now }
-    requires role { RoleStandsIn text.now role }
-    ensures { OnOk result ((start : ℕ) (p : Proof) → Stands (map step_of steps.now) start p → number ≡ start + steps_before p
-        → string_bytes out.new ≡ string_bytes out.old ++ drawn form text.now depth role p) }
-{
-    let step = &steps[number];
-    let premises = premises_of(step);
-    let first = first_role(role, step);
-    push_before(alloc, out, form, text, step, depth, role)?;
-    push_trees(
-        alloc,
-        out,
-        form,
-        text,
-        steps,
-        premises,
-        number,
-        depth + 1,
-        first,
-    )?;
-    push_behind(alloc, out, form, text, step, premises.len(), role)
-}
-
-/// Draws the proofs that end in the steps with these indices, all less than `end`; the first one is about a term with this
-/// role.
-#[cycle(tree)]
-fn push_trees(
-    alloc: Global,
-    out: &mut String,
-    form: Form,
-    text: &str,
-    steps: &[Step],
-    numbers: &[usize],
-    end: usize,
-    depth: usize,
-    first: Role,
-) -> Result<(), AllocError>
-    requires inside { end ≤ length steps.now }
-    requires deep { depth + end ≤ 2 ^ 62 }
-    requires whole_characters { All (StepStandsIn text.now) steps.now }
-    requires role { RoleStandsIn text.now first }
-    ensures { OnOk result ((start : ℕ) (ps : Proofs) → AllStand (map step_of steps.now) start ps → numbers.now ≡ last_steps start ps → start + number_of_steps ps ≤ end
-        → string_bytes out.new ≡ string_bytes out.old ++ drawn_each form text.now depth first ps) }
-{
-    let mut role = first;
-    for i in 0..numbers.len() {
-        let number = numbers[i];
-        if number < end {
-            push_tree(alloc, out, form, text, steps, number, depth, role)?;
+impl Picture<'_> {
+    /// Draws the proof.
+    fn push_proof(&self, out: &mut String) -> Result<(), AllocError>
+        requires { All (StepStandsIn self.now.text.now) self.now.steps.now }
+        ensures { OnOk result ((p : Proof) → map step_of self.now.steps.now ≡ steps_of 0 p → string_bytes out.new ≡ string_bytes out.old ++ drawn self.now.form self.now.text.now 0 Role.Other p) }
+    {
+        if self.steps.is_empty() {
+            return Ok(());
         }
-        role = Role::Other;
+        self.push_tree(out, self.steps.len() - 1, 0, Role::Other)
     }
-    Ok(())
+
+    /// Draws the proof that ends in the step with this index, about a term with this role.
+    #[cycle(tree)]
+    fn push_tree(
+        &self,
+        out: &mut String,
+        number: usize,
+        depth: usize,
+        role: Role,
+    ) -> Result<(), AllocError>
+        requires inside { number < length self.now.steps.now }
+        requires deep { depth + number < 2 ^ 62 }
+        requires whole_characters { All (StepStandsIn self.now.text.now) self.now.steps.now }
+        requires role { RoleStandsIn self.now.text.now role }
+        ensures { OnOk result ((start : ℕ) (p : Proof) → Stands (map step_of self.now.steps.now) start p → number ≡ start + steps_before p
+            → string_bytes out.new ≡ string_bytes out.old ++ drawn self.now.form self.now.text.now depth role p) }
+    {
+        let steps = self.steps;
+        let step = &steps[number];
+        let premises = premises_of(step);
+        let first = first_role(role, step);
+        self.push_before(out, step, depth, role)?;
+        self.push_trees(out, premises, number, depth + 1, first)?;
+        self.push_behind(out, step, premises.len(), role)
+    }
+
+    /// Draws the proofs that end in the steps with these indices, all less than `end`; the first one is about a term with
+    /// this role.
+    #[cycle(tree)]
+    fn push_trees(
+        &self,
+        out: &mut String,
+        numbers: &[usize],
+        end: usize,
+        depth: usize,
+        first: Role,
+    ) -> Result<(), AllocError>
+        requires inside { end ≤ length self.now.steps.now }
+        requires deep { depth + end ≤ 2 ^ 62 }
+        requires whole_characters { All (StepStandsIn self.now.text.now) self.now.steps.now }
+        requires role { RoleStandsIn self.now.text.now first }
+        ensures { OnOk result ((start : ℕ) (ps : Proofs) → AllStand (map step_of self.now.steps.now) start ps → numbers.now ≡ last_steps start ps → start + number_of_steps ps ≤ end
+            → string_bytes out.new ≡ string_bytes out.old ++ drawn_each self.now.form self.now.text.now depth first ps) }
+    {
+        let mut role = first;
+        for i in 0..numbers.len() {
+            let number = numbers[i];
+            if number < end {
+                self.push_tree(out, number, depth, role)?;
+            }
+            role = Role::Other;
+        }
+        Ok(())
+    }
+
+    /// Writes what comes before the premises of a step.
+    fn push_before(
+        &self,
+        out: &mut String,
+        step: &Step,
+        depth: usize,
+        role: Role,
+    ) -> Result<(), AllocError>
+        requires deep { 2 * depth < 2 ^ 64 }
+        requires whole_characters { StepStandsIn self.now.text.now step.now }
+        requires role { RoleStandsIn self.now.text.now role }
+        ensures { OnOk result (string_bytes out.new ≡ string_bytes out.old ++ before self.now.form self.now.text.now depth role (step_of step.now).conclusion) }
+    {
+        match self.form {
+            Form::Text => {
+                push_blanks(out, 2 * depth)?;
+                out.push_str(&claim_as(self.alloc, self.text, step, role)?)?;
+                out.push_str("  (")?;
+                out.push_str(rule_of(step))?;
+                out.push_str(")\n")
+            }
+            Form::Html => self.push_html_head(out, step, role),
+            Form::Latex => Ok(()),
+        }
+    }
+
+    /// Writes the opening of a collapsible section.
+    fn push_html_head(&self, out: &mut String, step: &Step, role: Role) -> Result<(), AllocError>
+        requires whole_characters { StepStandsIn self.now.text.now step.now }
+        requires role { RoleStandsIn self.now.text.now role }
+        ensures { OnOk result (string_bytes out.new ≡ string_bytes out.old ++ html_head self.now.text.now role (step_of step.now).conclusion) }
+    {
+        out.push_str(Markup::HtmlOpen.text())?;
+        let claim = claim_as(self.alloc, self.text, step, role)?;
+        push_written(out, Form::Html, &claim)?;
+        out.push_str(Markup::HtmlRule.text())?;
+        out.push_str(rule_of(step))?;
+        out.push_str(Markup::HtmlLine.text())
+    }
+
+    /// Writes what comes after the premises.
+    fn push_behind(
+        &self,
+        out: &mut String,
+        step: &Step,
+        count: usize,
+        role: Role,
+    ) -> Result<(), AllocError>
+        requires whole_characters { StepStandsIn self.now.text.now step.now }
+        requires role { RoleStandsIn self.now.text.now role }
+        ensures { OnOk result (string_bytes out.new ≡ string_bytes out.old ++ behind self.now.form self.now.text.now count role (step_of step.now).conclusion) }
+    {
+        match self.form {
+            Form::Text => Ok(()),
+            Form::Html => out.push_str(Markup::HtmlEnd.text()),
+            Form::Latex => self.push_latex_step(out, step, count, role),
+        }
+    }
+
+    fn push_latex_step(
+        &self,
+        out: &mut String,
+        step: &Step,
+        count: usize,
+        role: Role,
+    ) -> Result<(), AllocError>
+        requires whole_characters { StepStandsIn self.now.text.now step.now }
+        requires role { RoleStandsIn self.now.text.now role }
+        ensures { OnOk result (string_bytes out.new ≡ string_bytes out.old ++ latex_step self.now.text.now count role (step_of step.now).conclusion) }
+    {
+        push_axiom(out, count)?;
+        let packs = count.saturating_sub(2) / 4;
+        push_packs(out, packs)?;
+        self.push_latex_claim(out, step, count - 4 * packs, role)
+    }
+
+    /// Writes the conclusion of a step with this many premises, with the name of its rule next to the line.
+    fn push_latex_claim(
+        &self,
+        out: &mut String,
+        step: &Step,
+        count: usize,
+        role: Role,
+    ) -> Result<(), AllocError>
+        requires whole_characters { StepStandsIn self.now.text.now step.now }
+        requires role { RoleStandsIn self.now.text.now role }
+        ensures { OnOk result (string_bytes out.new ≡ string_bytes out.old ++ latex_claim self.now.text.now count role (step_of step.now).conclusion) }
+    {
+        out.push_str(Markup::LatexRule.text())?;
+        out.push_str(rule_of(step))?;
+        out.push_str(Markup::LatexLine.text())?;
+        out.push_str(arity(count))?;
+        out.push_str(Markup::LatexTerm.text())?;
+        let claim = claim_as(self.alloc, self.text, step, role)?;
+        push_written(out, Form::Latex, &claim)?;
+        out.push_str(Markup::LatexEnd.text())
+    }
 }
 
 fn premises_of(step: &Step) -> &[usize]
@@ -162,53 +247,6 @@ fn premises_of(step: &Step) -> &[usize]
     }
 }
 
-/// Writes what comes before the premises of a step.
-fn push_before(
-    alloc: Global,
-    out: &mut String,
-    form: Form,
-    text: &str,
-    step: &Step,
-    depth: usize,
-    role: Role,
-) -> Result<(), AllocError>
-    requires deep { 2 * depth < 2 ^ 64 }
-    requires whole_characters { StepStandsIn text.now step.now }
-    requires role { RoleStandsIn text.now role }
-    ensures { OnOk result (string_bytes out.new ≡ string_bytes out.old ++ before form text.now depth role (step_of step.now).conclusion) }
-{
-    match form {
-        Form::Text => {
-            push_blanks(out, 2 * depth)?;
-            push_claim(alloc, out, form, text, step, role)?;
-            out.push_str("  (")?;
-            out.push_str(rule_of(step))?;
-            out.push_str(")\n")
-        }
-        Form::Html => push_html_head(alloc, out, text, step, role),
-        Form::Latex => Ok(()),
-    }
-}
-
-/// Writes the opening of a collapsible section.
-fn push_html_head(
-    alloc: Global,
-    out: &mut String,
-    text: &str,
-    step: &Step,
-    role: Role,
-) -> Result<(), AllocError>
-    requires whole_characters { StepStandsIn text.now step.now }
-    requires role { RoleStandsIn text.now role }
-    ensures { OnOk result (string_bytes out.new ≡ string_bytes out.old ++ html_head text.now role (step_of step.now).conclusion) }
-{
-    out.push_str(Markup::HtmlOpen.text())?;
-    push_claim(alloc, out, Form::Html, text, step, role)?;
-    out.push_str(Markup::HtmlRule.text())?;
-    out.push_str(rule_of(step))?;
-    out.push_str(Markup::HtmlLine.text())
-}
-
 fn push_blanks(out: &mut String, count: usize) -> Result<(), AllocError>
     ensures { OnOk result (string_bytes out.new ≡ string_bytes out.old ++ replicate count 32) }
 {
@@ -216,67 +254,6 @@ fn push_blanks(out: &mut String, count: usize) -> Result<(), AllocError>
         out.push(' ')?;
     }
     Ok(())
-}
-
-/// Writes what comes after the premises.
-fn push_behind(
-    alloc: Global,
-    out: &mut String,
-    form: Form,
-    text: &str,
-    step: &Step,
-    count: usize,
-    role: Role,
-) -> Result<(), AllocError>
-    requires whole_characters { StepStandsIn text.now step.now }
-    requires role { RoleStandsIn text.now role }
-    ensures { OnOk result (string_bytes out.new ≡ string_bytes out.old ++ behind form text.now count role (step_of step.now).conclusion) }
-{
-    match form {
-        Form::Text => Ok(()),
-        Form::Html => out.push_str(Markup::HtmlEnd.text()),
-        Form::Latex => push_latex_step(alloc, out, text, step, count, role),
-    }
-}
-
-fn push_latex_step(
-    alloc: Global,
-    out: &mut String,
-    text: &str,
-    step: &Step,
-    count: usize,
-    role: Role,
-) -> Result<(), AllocError>
-    requires whole_characters { StepStandsIn text.now step.now }
-    requires role { RoleStandsIn text.now role }
-    ensures { OnOk result (string_bytes out.new ≡ string_bytes out.old ++ latex_step text.now count role (step_of step.now).conclusion) }
-{
-    push_axiom(out, count)?;
-    let packs = count.saturating_sub(2) / 4;
-    push_packs(out, packs)?;
-    push_latex_claim(alloc, out, text, step, count - 4 * packs, role)
-}
-
-/// Writes the conclusion of a step with this many premises, with the name of its rule next to the line.
-fn push_latex_claim(
-    alloc: Global,
-    out: &mut String,
-    text: &str,
-    step: &Step,
-    count: usize,
-    role: Role,
-) -> Result<(), AllocError>
-    requires whole_characters { StepStandsIn text.now step.now }
-    requires role { RoleStandsIn text.now role }
-    ensures { OnOk result (string_bytes out.new ≡ string_bytes out.old ++ latex_claim text.now count role (step_of step.now).conclusion) }
-{
-    out.push_str(Markup::LatexRule.text())?;
-    out.push_str(rule_of(step))?;
-    out.push_str(Markup::LatexLine.text())?;
-    out.push_str(arity(count))?;
-    out.push_str(Markup::LatexTerm.text())?;
-    push_claim(alloc, out, Form::Latex, text, step, role)?;
-    out.push_str(Markup::LatexEnd.text())
 }
 
 /// Writes an empty premise for a step that has none.
@@ -310,23 +287,6 @@ fn arity(count: usize) -> &'static str
         5 => "Quinary",
         _ => "Unary",
     }
-}
-
-/// Appends the conclusion of a step, escaped for the form.
-fn push_claim(
-    alloc: Global,
-    out: &mut String,
-    form: Form,
-    text: &str,
-    step: &Step,
-    role: Role,
-) -> Result<(), AllocError>
-    requires whole_characters { StepStandsIn text.now step.now }
-    requires role { RoleStandsIn text.now role }
-    ensures { OnOk result (string_bytes out.new ≡ string_bytes out.old ++ written form (claim_text text.now role (step_of step.now).conclusion)) }
-{
-    let claim = claim_as(alloc, text, step, role)?;
-    push_written(out, form, &claim)
 }
 
 /// Returns the conclusion of a step as text, with its term as it is written.
