@@ -1,5 +1,6 @@
 pub mod LineEnds
 pub mod Writing
+pub mod Columns
 pub mod Uncommented
 pub mod Drawing
 pub mod PlainTypes

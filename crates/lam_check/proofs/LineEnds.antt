@@ -146,7 +146,7 @@ chars_after_few zero c (b ∷ bytes) = omega (arith, chars_after_few (continuati
 chars_after_few (suc n) c [] = omega arith
 chars_after_few (suc n) c (b ∷ bytes) = omega (arith, chars_after_few n (c * 64 + (b - 128)) bytes)
 
-chars_few : (bytes : List ℕ) → length (chars bytes) ≤ length bytes
+pub chars_few : (bytes : List ℕ) → length (chars bytes) ≤ length bytes
 unfolding chars
 chars_few [] = omega arith
 chars_few (b ∷ bytes) = omega (arith, chars_after_few (continuation_len b) (lead_bits b) bytes)

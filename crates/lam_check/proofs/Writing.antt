@@ -1,5 +1,5 @@
 -- Texts that are written piece by piece.
-use Rattle.std.proofs.Common.{◌≡◌, ℕ, zero, suc, ◌+◌, ◌-◌, ◌<◌, ◌≤◌, List, [], ◌∷◌, ◌++◌, length, take, drop, map, flat_map, get_or, refl, ap, sym, ◌∙◌, arith, add-one, encode_utf8, encode_utf8_all, Result, Ok, Err, OnOk}
+use Rattle.std.proofs.Common.{◌≡◌, ℕ, zero, suc, ◌+◌, ◌<◌, ◌≤◌, List, ◌∷◌, ◌++◌, length, drop, map, flat_map, get_or, ap, sym, ◌∙◌, add-one, encode_utf8, encode_utf8_all, Result, Ok, Err, OnOk}
 use Rattle.std.specs.List.{repeat}
 use Rattle.std.proofs.lemmas.List.{drop_more, drop_all, append_assoc, append-nil}
 
@@ -21,25 +21,9 @@ chars_more f was now total cs n c h is all =
     let rest = encode_utf8_all (map f (drop (n + 1) cs)) in
     ap (λ text. text ++ rest) is ∙ (append_assoc was (encode_utf8 (f c)) rest ∙ (ap (λ ds. was ++ encode_utf8_all (map f ds)) (sym (next_char cs n c h)) ∙ all))
 
--- the same of the first so many of them
-pub front_more : (f : ℕ → ℕ) (was now total cs : List ℕ) (n c left : ℕ) → (n < length cs) × (c ≡ get_or cs n c) → 0 < left
-    → now ≡ was ++ encode_utf8 (f c) → was ++ encode_utf8_all (map f (take left (drop n cs))) ≡ total → now ++ encode_utf8_all (map f (take (left - 1) (drop (n + 1) cs))) ≡ total
-front_more f was now total cs n c zero h some is all = absurd (omega arith)
-front_more f was now total cs n c (suc left) h some is all =
-    let rest = encode_utf8_all (map f (take left (drop (n + 1) cs))) in
-    let less : suc left - 1 ≡ left = omega arith in
-    rw less (ap (λ text. text ++ rest) is ∙ (append_assoc was (encode_utf8 (f c)) rest ∙ (ap (λ ds. was ++ encode_utf8_all (map f (take (suc left) ds))) (sym (next_char cs n c h)) ∙ all)))
-
 -- where none is left, what is written is all
 pub chars_all : (f : ℕ → ℕ) (was total cs : List ℕ) (n : ℕ) → length cs ≤ n → was ++ encode_utf8_all (map f (drop n cs)) ≡ total → was ≡ total
 chars_all f was total cs n past all = sym (append-nil was) ∙ rw (drop_all n cs past) at all
-
-pub chars_end : (f : ℕ → ℕ) (was total cs : List ℕ) (n left : ℕ) → length cs ≤ n → was ++ encode_utf8_all (map f (take left (drop n cs))) ≡ total → was ≡ total
-chars_end f was total cs n left past all = sym (append-nil was) ∙ (ap (λ ds. was ++ encode_utf8_all (map f ds)) (sym (take-nil left)) ∙ rw (drop_all n cs past) at all)
-  where
-    take-nil : (n : ℕ) → take n (let none : List ℕ = [] in none) ≡ []
-    take-nil zero = refl
-    take-nil (suc n) = refl
 
 -- the text of the next character, and those of the characters behind it, are those of the characters that were left
 pub each_more : (f : ℕ → List ℕ) (was now total cs : List ℕ) (n c : ℕ) → (n < length cs) × (c ≡ get_or cs n c)

@@ -1,5 +1,5 @@
 -- Human-readable reports on a text.
-use Rattle.std.specs.Prelude.{◌≡◌, ℕ, ◌+◌, ◌-◌, ◌==◌, List, [], ◌∷◌, ◌++◌, codes, chars, decimal, flat_map, length, max, Option, Some, None, if◌then◌else◌}
+use Rattle.std.specs.Prelude.{◌≡◌, ℕ, ◌+◌, ◌==◌, List, [], ◌∷◌, ◌++◌, codes, chars, decimal, flat_map, length, max, Option, Some, None, if◌then◌else◌}
 use Rattle.lam_rules.specs.Texts.{Text}
 use Rattle.lam_rules.specs.declared.rules.Dialect.{Dialect}
 use Rattle.lam_text.specs.declared.places.Position.{Position}
@@ -9,7 +9,7 @@ use Rattle.lam_query.specs.Mismatches.{Mismatch, expected, found, ExplainedFault
 use Rattle.lam_session.specs.Diagnostics.{message_of}
 use Rattle.lam_check.specs.declared.paint.Paint.{Paint}
 use Rattle.lam_check.specs.Paints.{painted}
-use Rattle.lam_check.specs.Lines.{line_of, shown_line, blanks, marks}
+use Rattle.lam_check.specs.Lines.{line_of, columns_between, shown_line, blanks, marks}
 
 -- the position of an offset, in characters; line and column are zero-based
 abbrev pub place_of : List ℕ → (offset : ℕ) → Position
@@ -23,9 +23,9 @@ place_text p = decimal (p.line + 1) ++ codes ":" ++ decimal (p.character + 1)
 abbrev pub last_column : (line : List ℕ) → (start end : Position) → ℕ
 last_column line start end = if end.line == start.line then end.character else length (chars line)
 
--- the number of characters to mark: those of the diagnostic on its first line, but at least one
+-- the number of columns to mark: those of the diagnostic's characters on its first line, but at least one
 abbrev pub width : (line : List ℕ) → (start end : Position) → ℕ
-width line start end = max 1 (last_column line start end - start.character)
+width line start end = max 1 (columns_between start.character (last_column line start end) line)
 
 -- `FILE:LINE:COLUMN: error[CODE]: MESSAGE`, with the file name escaped like a line
 abbrev pub head : Paint → (name : Text) → (code : Text) → Position → Text

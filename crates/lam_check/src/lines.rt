@@ -1,10 +1,39 @@
 //! Lines of a text for display, with marks under some of their characters.
 ghost use Rattle.std.specs.Prelude.{◌≡◌, ◌++◌, IfOk, OnOk, string_bytes};
 ghost use Rattle.lam_text.specs.declared.units.Encoding.{Encoding};
-ghost use Rattle.lam_check.specs.Lines.{line_of, shown, blank, shown_line, blanks, marks};
+ghost use Rattle.lam_check.specs.Lines.{line_of, shown, is_in_ranges, columns, columns_between, blank, shown_line, blanks, marks};
 
 use lam_text::{Doc, Encoding, Position};
 use std::alloc::{AllocError, Global};
+
+/// The characters of two columns, in ranges from the first to the last.
+const WIDE: [(char, char); 14] = [
+    ('\u{1100}', '\u{115f}'),
+    ('\u{2e80}', '\u{303e}'),
+    ('\u{3041}', '\u{a4cf}'),
+    ('\u{a960}', '\u{a97f}'),
+    ('\u{ac00}', '\u{d7a3}'),
+    ('\u{f900}', '\u{faff}'),
+    ('\u{fe30}', '\u{fe6f}'),
+    ('\u{ff01}', '\u{ff60}'),
+    ('\u{ffe0}', '\u{ffe6}'),
+    ('\u{1f300}', '\u{1f64f}'),
+    ('\u{1f680}', '\u{1f6ff}'),
+    ('\u{1f900}', '\u{1f9ff}'),
+    ('\u{1fa70}', '\u{1faff}'),
+    ('\u{20000}', '\u{3fffd}'),
+];
+
+/// The characters of no column.
+const ZERO_WIDTH: [(char, char); 7] = [
+    ('\u{300}', '\u{36f}'),
+    ('\u{1ab0}', '\u{1aff}'),
+    ('\u{1dc0}', '\u{1dff}'),
+    ('\u{200b}', '\u{200f}'),
+    ('\u{20d0}', '\u{20ff}'),
+    ('\u{fe00}', '\u{fe0f}'),
+    ('\u{fe20}', '\u{fe2f}'),
+];
 
 /// Returns the content of a line without its line ending, by zero-based number; empty if there is no such line.
 pub fn line_of(doc: &Doc, number: u64) -> &str
@@ -35,11 +64,43 @@ fn shown(c: char) -> char
     c
 }
 
-/// The character below `c`, before the mark.
-fn blank(c: char) -> char
-    ensures { result ≡ blank c }
+/// The number of columns that a terminal gives to `c`.
+#[tactic(auto, unfolding(crate::specs::Lines::wide, crate::specs::Lines::zero_width))]
+fn columns(c: char) -> u64
+    ensures { result ≡ columns c }
 {
-    if c == '\t' { c } else { ' ' }
+    if is_in_ranges(&WIDE, c) {
+        return 2;
+    }
+    if is_in_ranges(&ZERO_WIDTH, c) {
+        return 0;
+    }
+    1
+}
+
+fn is_in_ranges(ranges: &[(char, char)], c: char) -> bool
+    ensures { result ≡ is_in_ranges ranges.now c }
+{
+    for range in ranges {
+        if range.0 <= c && c <= range.1 {
+            return true;
+        }
+    }
+    false
+}
+
+/// What is written below `c`, before the mark.
+fn blank(c: char) -> &'static str
+    ensures { result.now ≡ blank c }
+{
+    if c == '\t' {
+        return "\t";
+    }
+    match columns(c) {
+        0 => "",
+        1 => " ",
+        _ => "  ",
+    }
 }
 
 /// Returns a line for display: control characters other than the tab become U+FFFD.
@@ -65,18 +126,24 @@ pub fn push_shown(out: &mut String, line: &str) -> Result<(), AllocError>
 pub fn push_blanks(out: &mut String, line: &str, count: u64) -> Result<(), AllocError>
     ensures { OnOk result (string_bytes out.new ≡ string_bytes out.old ++ blanks count line.now) }
 {
-    let mut left = count;
-    for c in line.chars() {
-        if left == 0 {
-            return Ok(());
-        }
-        out.push(blank(c))?;
-        left -= 1;
+    for c in line.chars().take(count as usize) {
+        out.push_str(blank(c))?;
     }
     Ok(())
 }
 
-/// Appends marks for `count` characters.
+/// Returns the columns of the characters of a line from number `start` to before number `end`.
+pub fn columns_between(line: &str, start: u64, end: u64) -> u64
+    ensures { result ≡ columns_between start end line.now }
+{
+    let mut sum = 0;
+    for c in line.chars().take(end as usize).skip(start as usize) {
+        sum += columns(c);
+    }
+    sum
+}
+
+/// Appends `count` marks.
 pub fn push_marks(out: &mut String, count: u64) -> Result<(), AllocError>
     ensures { OnOk result (string_bytes out.new ≡ string_bytes out.old ++ marks count) }
 {

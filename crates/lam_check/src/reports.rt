@@ -8,7 +8,7 @@ ghost use Rattle.lam_check.specs.Paints.{painted};
 ghost use Rattle.std.specs.Str.{IsCharBoundary};
 ghost use Rattle.lam_check.specs.Reports.{IsReport, place_of, place_text, head, excerpt, mismatch_text, marked, between, fault_report, last_column, width};
 
-use crate::lines::{line_of, push_blanks, push_marks, push_shown};
+use crate::lines::{columns_between, line_of, push_blanks, push_marks, push_shown};
 use crate::paint::Paint;
 use lam_query::answers::{ExplainedFault, Fault, Mismatch};
 use lam_query::explained_faults;
@@ -196,13 +196,11 @@ fn push_excerpt(
     out.push_str(paint.rest())
 }
 
-/// The number of characters to mark.
+/// The number of columns to mark.
 fn width(line: &str, start: Position, end: Position) -> u64
     ensures { result ≡ width line.now start end }
 {
-    last_column(line, start, end)
-        .saturating_sub(start.character)
-        .max(1)
+    columns_between(line, start.character, last_column(line, start, end)).max(1)
 }
 
 fn last_column(line: &str, start: Position, end: Position) -> u64

@@ -1,9 +1,9 @@
-use Rattle.std.proofs.Common.{◌≡◌, ◌++◌, length, drop, take, map, string_bytes}
-use Rattle.std.specs.Str.{chars, encode_utf8_all}
-use Rattle.lam_check.specs.Lines.{blank}
+use Rattle.std.proofs.Common.{◌≡◌, ◌++◌, length, drop, take, flat_map, string_bytes}
+use Rattle.std.specs.Str.{chars}
+use Rattle.lam_check.specs.Lines.{blank, blanks}
 use Rattle.lam_check.proofs.lines.push_blanks.Given as goal
 
--- what is written, and what stands under the characters that are left, are all
+-- what is written, and the blanks below the characters that are left, are all
 abbrev pub invariant-loop-c : goal.invariant-loop-c
 invariant-loop-c l =
-    string_bytes l.out ++ encode_utf8_all (map blank (take l.left (drop (length l.yielded) (chars l.line)))) ≡ string_bytes l.initial.out ++ encode_utf8_all (map blank (take l.count (chars l.line)))
+    string_bytes l.out ++ flat_map blank (drop (length l.yielded) (take l.count (chars l.line))) ≡ string_bytes l.initial.out ++ blanks l.count l.line
