@@ -18,7 +18,7 @@ fn wide_record(alloc: Global, size: usize) -> Result<Ty, AllocError> {
     for number in 0..size {
         fields.push((format!(in alloc; "l{number}")?, Ty::Nat))?;
     }
-    Ok(make_record(fields))
+    make_record(alloc, fields)
 }
 
 /// Returns the time it takes to add a record type of `size` fields to an empty table.

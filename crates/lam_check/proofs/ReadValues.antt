@@ -7,7 +7,7 @@ use Rattle.std.proofs.lemmas.Simd.{map-map}
 use Rattle.std.specs.Str.{IsUtf8}
 use Rattle.std.specs.Option.{option_and_then}
 use Rattle.std.proofs.lemmas.Bool.{eq-eqb}
-use Rattle.serde_json.specs.Data.{Data, array, object, member, no_members, item, no_items}
+use Rattle.serde_json.specs.Data.{Data, string, array, object, member, no_members, item, no_items}
 use Rattle.serde_json.specs.Find.{as_array, as_number, as_u64}
 use Rattle.serde_json.specs.View.{view, items_of, items_view}
 use Rattle.serde_json.specs.declared.value.Value.{Value}
@@ -15,10 +15,14 @@ use Rattle.lam_text.specs.declared.places.Position.{Position}
 use Rattle.lam_text.specs.declared.units.Encoding.{Encoding}
 use Rattle.lam_text.specs.Positions.{position_of, offset_of}
 use Rattle.lam_text.proofs.LawLemmas.{comes_back}
+use Rattle.lam_rules.specs.Types.{Typ}
+use Rattle.lam_rules.specs.Texts.{plain_text}
+use Rattle.lam_query.specs.Steps.{Step, Conclusion, typing, subtyping}
+use Rattle.lam_session.specs.Derivations.{conclusion_value, step_value}
 use Rattle.lam_session.specs.Ranges.{position_value}
-use Rattle.lam_check.specs.Readable.{IsReadableOffset}
+use Rattle.lam_check.specs.Readable.{IsReadableConclusion, IsReadableOffset, IsReadableType}
 use Rattle.lam_check.specs.declared.read_derivations.Unread.{Unread}
-use Rattle.lam_check.specs.inner.Read.{IsUnread, number_value}
+use Rattle.lam_check.specs.inner.Read.{IsUnread, number_value, subtyping_members}
 
 -- ---- the values so far
 
@@ -116,3 +120,14 @@ two_views {w = w} {x = x} {y = y} {z = z} {k = k} {l = l} e f =
     let first : w ≡ y = cc in
     let second : x ≡ z = cc in
     (first, second)
+
+-- A step of subtyping that is read from these members has an upper type that is read from the last.
+pub unread_upper : (from lower rule upper : Data) (encoding : Encoding) (text : List ℕ)
+    → ((x : Step) × IsReadableConclusion text x.conclusion × (subtyping_members from lower rule upper ≡ step_value encoding text x))
+    → (t : Typ) × IsReadableType t × (upper ≡ string (plain_text t))
+unread_upper from lower rule upper encoding text h = by h.0.conclusion h.1 h.2
+  where
+    by : (c : Conclusion) → IsReadableConclusion text c → subtyping_members from lower rule upper ≡ conclusion_value encoding text h.0.premises c
+        → (t : Typ) × IsReadableType t × (upper ≡ string (plain_text t))
+    by (typing r s t) readable is = absurd cc
+    by (subtyping r l u) readable is = (u, readable.1, cc)

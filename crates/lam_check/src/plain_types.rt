@@ -189,7 +189,8 @@ fn record_at<'t>(
     let mut rest = text;
     loop {
         if let Some(left) = behind(rest, "}") {
-            return Ok(Some((make_record(fields), left)));
+            let made = make_record(alloc, fields)?;
+            return Ok(Some((made, left)));
         }
         let Some((label, further)) = around_colon(rest) else {
             return Ok(None);

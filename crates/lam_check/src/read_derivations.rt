@@ -1,7 +1,7 @@
 //! Derivations read back from JSON values.
-ghost use Rattle.std.specs.Prelude.{◌≡◌, ℕ, List, Option, codes, map, All, IfOk, IfSome, IfNone};
+ghost use Rattle.std.specs.Prelude.{◌≡◌, ℕ, List, Option, map, All, IfOk, IfSome, IfNone};
 ghost use Rattle.std.specs.Str.{IsUtf8};
-ghost use Rattle.serde_json.specs.Data.{string, object, member, no_members};
+ghost use Rattle.serde_json.specs.Data.{string};
 ghost use Rattle.serde_json.specs.View.{view};
 ghost use Rattle.lam_rules.specs.Types.{Typ};
 ghost use Rattle.lam_rules.specs.TypeViews.{typ_of};
@@ -12,8 +12,8 @@ ghost use Rattle.lam_text.specs.Positions.{position_of};
 ghost use Rattle.lam_text.specs.declared.units.Encoding.{Encoding};
 ghost use Rattle.lam_query.specs.Views.{derivation_of, entry_of, step_of};
 ghost use Rattle.lam_query.specs.Derivations.{ContextEntry, Derivation as DerivationTree};
-ghost use Rattle.lam_query.specs.Steps.{Step as StepTree, typing, subtyping};
-ghost use Rattle.lam_session.specs.Derivations.{derivation_value, entry_value, premises_value, conclusion_value, step_value, type_value};
+ghost use Rattle.lam_query.specs.Steps.{Step as StepTree};
+ghost use Rattle.lam_session.specs.Derivations.{derivation_value, entry_value, premises_value, step_value, type_value};
 ghost use Rattle.lam_session.specs.Ranges.{position_value, range_value};
 ghost use Rattle.lam_check.specs.Readable.{IsReadable, IsReadableConclusion, IsReadableOffset, IsReadableSpan, IsReadableType};
 ghost use Rattle.lam_check.specs.inner.Read.{IsUnread, number_value, typing_members, subtyping_members};

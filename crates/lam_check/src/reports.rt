@@ -1,5 +1,5 @@
 //! Human-readable diagnostics of a text.
-ghost use Rattle.std.specs.Prelude.{◌≡◌, ◌+◌, ◌++◌, ◌^◌, ◌<◌, ◌-◌, flat_map, map, codes, decimal, length, All, IfOk, OnOk, string_bytes, option_map};
+ghost use Rattle.std.specs.Prelude.{◌≡◌, ◌+◌, ◌++◌, ◌^◌, ◌<◌, flat_map, map, codes, decimal, length, All, IfOk, OnOk, string_bytes, option_map};
 ghost use Rattle.lam_text.specs.declared.units.Encoding.{Encoding};
 ghost use Rattle.lam_query.specs.Views.{explained_of, mismatch_of};
 ghost use Rattle.lam_query.specs.Within.{IsSpanOfText};

@@ -1,8 +1,8 @@
 //! The texts of terms in a drawing. The terms that a `letrec` is short for are shown in full.
-ghost use Rattle.std.specs.Prelude.{◌≡◌, ◌+◌, ◌<◌, ◌++◌, ◌^◌, ◌==◌, IfOk, OnOk, chars, codes, encode_utf8_all, map, option_map, string_bytes};
+ghost use Rattle.std.specs.Prelude.{◌≡◌, ◌+◌, ◌<◌, ◌++◌, ◌^◌, ◌==◌, IfOk, OnOk, chars, encode_utf8_all, map, option_map, string_bytes};
 ghost use Rattle.std.specs.List.{before_first, after_first};
 ghost use Rattle.std.specs.Option.{option_copied};
-ghost use Rattle.lam_query.specs.Views.{step_of, StepStandsIn};
+ghost use Rattle.lam_query.specs.Views.{step_of};
 ghost use Rattle.lam_query.specs.Within.{IsSpanOfText};
 ghost use Rattle.lam_check.specs.Terms.{flat, term_text, is_opening, is_closing, next_before, next_depth, outside, kept, uncommented, header, binder_behind, binder_in, binder_of, opening, closing, shown_term, under_fix, role_under, first_role};
 ghost use Rattle.lam_check.specs.inner.Roles.{RoleStandsIn};

@@ -1,6 +1,6 @@
 //! Reading of frames.
 
-ghost use Rattle.std.specs.Prelude.{◌≡◌, IfSome, OnOk, ◌+◌, ◌-◌, ◌^◌, ◌<◌, ◌≤◌, IfOk, [], length, Ok, Err, None, OnSome};
+ghost use Rattle.std.specs.Prelude.{◌≡◌, IfSome, OnOk, ◌-◌, ◌^◌, ◌<◌, ◌≤◌, IfOk, [], length, Ok, Err, None, OnSome};
 ghost use Rattle.lam_frame.specs.Device.{source_of};
 ghost use Rattle.lam_frame.specs.Header.{body_limit};
 ghost use Rattle.lam_frame.specs.Frame.{IsOpen};

@@ -1,10 +1,9 @@
 -- How many steps proofs have, and lists of steps while they grow.
-use Rattle.std.proofs.Common.{◌≡◌, ℕ, ◌+◌, List, [], ◌∷◌, ◌++◌, map, length, drop, get_or, Some, refl, sym, ap, ◌∙◌, arith, zero, suc, length-append, append_assoc, append-nil}
+use Rattle.std.proofs.Common.{◌≡◌, ℕ, ◌+◌, ◌≤◌, List, [], ◌∷◌, ◌++◌, map, length, drop, get_or, Some, refl, sym, ap, ◌∙◌, arith, zero, suc, length-append, append_assoc, append-nil}
 use Rattle.std.proofs.lemmas.List.{length-map, map-append}
 use Rattle.std.proofs.Math.ListN.{drop_of_length-le}
 use Rattle.lam_rules.specs.Subtyping.{SubTree}
 use Rattle.lam_rules.specs.TypingViews.{typings_of}
-use Rattle.lam_rules.proofs.TypingShapes.{typings_of-none}
 use Rattle.lam_rules.specs.declared.typing.TypeProof.{TypeProof}
 use Rattle.lam_rules.specs.Typing.{TypingTree, TypingTrees, typing_first}
 use Rattle.lam_scope.specs.Tables.{Table}
@@ -128,5 +127,5 @@ row_proofs-next t place (u ∷ terms) (suc i) ps p rest e =
     let next : suc i + 1 ≡ suc (i + 1) = omega arith in
     rw next (row_proofs-next t place terms i ps p rest e)
 
-pub row_proofs-end : (t : Table) (place : ℕ) (terms : List ℕ) (proofs : List TypeProof) → length proofs ≡ 0 → row_proofs t place terms (typings_of proofs) ≡ no_proofs
-row_proofs-end t place terms proofs none = rw (typings_of-none proofs none) refl
+pub row_proofs-end : (t : Table) (place : ℕ) (terms : List ℕ) (proofs : List TypeProof) (i : ℕ) → length proofs ≤ i → row_proofs t place terms (typings_of (drop i proofs)) ≡ no_proofs
+row_proofs-end t place terms proofs i le = rw (drop_of_length-le proofs le) refl

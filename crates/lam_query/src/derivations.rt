@@ -89,7 +89,7 @@ impl Analysis {
         let mut context = Vec::new(alloc);
         push_entries(alloc, self.types.table(), &outer, &mut context)?;
         push_entries(alloc, types.typing.table(), &inner, &mut context)?;
-        let steps = steps_of_proof(alloc, &scopes, place, proof)?;
+        let steps = steps_of_proof(alloc, &scopes, place, &proof)?;
         Ok(Some(Derivation { context, steps }))
     }
 }

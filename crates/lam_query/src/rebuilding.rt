@@ -141,7 +141,7 @@ fn typing_from(
         return Ok(None);
     };
     let Premises { typing, sub } = premises;
-    let ty = copy_of(alloc, ty)?;
+    let ty = copy_of(ty)?;
     Ok(Some(Tree::Typing(TypeProof {
         rule,
         ty,
@@ -203,8 +203,8 @@ fn sub_from(
     let Some(premises) = sub_premises(alloc, trees)? else {
         return Ok(None);
     };
-    let lower = copy_of(alloc, lower)?;
-    let upper = copy_of(alloc, upper)?;
+    let lower = copy_of(lower)?;
+    let upper = copy_of(upper)?;
     Ok(Some(Tree::Sub(SubProof {
         rule,
         lower,

@@ -16,21 +16,20 @@ ghost use Rattle.lam_query.specs.Views.{step_of, StepStandsIn};
 ghost use Rattle.lam_query.specs.inner.Listing.{AreListed};
 
 use crate::answers::Step;
-use lam_rules::{SubProof, TypeProof, TypeRule};
+use lam_rules::{SubProof, TypeProof, TypeRule, copy_of};
 use lam_scope::{Place, Scopes};
 use std::alloc::{AllocError, Global};
 
-/// Returns the steps of a proof about a subterm, each after its premises; the last one concludes the proof. The types of the proof
-/// are moved, since a copy of each would take as long as the proof itself.
+/// Returns the steps of a proof about a subterm, each after its premises; the last one concludes the proof. They share its types.
 pub(crate) fn steps_of_proof(
     alloc: Global,
     scopes: &Scopes,
     place: Place,
-    proof: TypeProof,
+    proof: &TypeProof,
 ) -> Result<Vec<Step>, AllocError>
-    ensures steps { IfOk result (λ listed. map step_of listed.items ≡ steps_of 0 (row_proof (table_of scopes.now) place.0 (typing_tree_of proof))) }
+    ensures steps { IfOk result (λ listed. map step_of listed.items ≡ steps_of 0 (row_proof (table_of scopes.now) place.0 (typing_tree_of proof.now))) }
     ensures of_term { IfOk result (λ listed. (commands : List CommandTree) → AreScopesOf scopes.now commands
-        → map step_of listed.items ≡ steps_of 0 (typing_proof (tree_in (document_terms commands) place.0) (typing_tree_of proof))) }
+        → map step_of listed.items ≡ steps_of 0 (typing_proof (tree_in (document_terms commands) place.0) (typing_tree_of proof.now))) }
     ensures whole_characters { IfOk result (λ listed. (text : List ℕ) → ((n : ℕ) → IsSpanOfText text (place_row_numbered (table_of scopes.now) n).span) → All (StepStandsIn text) listed.items) }
 {
     let mut listed = Vec::new(alloc);
@@ -46,23 +45,18 @@ fn list_typing(
     steps: &mut Vec<Step>,
     scopes: &Scopes,
     place: Place,
-    proof: TypeProof,
+    proof: &TypeProof,
 ) -> Result<usize, AllocError>
-    ensures steps { IfOk result (λ _. map step_of steps.new.items ≡ map step_of steps.old.items ++ steps_of (length steps.old.items) (row_proof (table_of scopes.now) place.0 (typing_tree_of proof))) }
-    ensures last { IfOk result (λ last. last ≡ length steps.old.items + steps_before (row_proof (table_of scopes.now) place.0 (typing_tree_of proof))) }
+    ensures steps { IfOk result (λ _. map step_of steps.new.items ≡ map step_of steps.old.items ++ steps_of (length steps.old.items) (row_proof (table_of scopes.now) place.0 (typing_tree_of proof.now))) }
+    ensures last { IfOk result (λ last. last ≡ length steps.old.items + steps_before (row_proof (table_of scopes.now) place.0 (typing_tree_of proof.now))) }
 {
-    let TypeProof {
-        rule,
-        ty,
-        typing,
-        sub,
-    } = proof;
-    let terms = premise_places(scopes, place, rule);
-    let mut premises = list_typings(alloc, steps, scopes, place, terms, typing)?;
-    list_side(alloc, steps, &mut premises, sub)?;
+    let terms = premise_places(scopes, place, proof.rule);
+    let mut premises = list_typings(alloc, steps, scopes, place, terms, &proof.typing)?;
+    list_side(alloc, steps, &mut premises, &proof.sub)?;
+    let ty = copy_of(&proof.ty)?;
     let last = steps.len();
     steps.push(Step::Typing {
-        rule,
+        rule: proof.rule,
         span: scopes.span_of(place),
         ty,
         premises,
@@ -90,13 +84,14 @@ fn list_typings(
     scopes: &Scopes,
     place: Place,
     terms: &[Place],
-    proofs: Vec<TypeProof>,
+    proofs: &[TypeProof],
 ) -> Result<Vec<usize>, AllocError>
-    ensures { IfOk result (λ numbers. AreListed steps.old.items (row_proofs (table_of scopes.now) place.0 (map place_number terms.now) (typings_of proofs.items)) steps.new.items numbers.items) }
+    ensures { IfOk result (λ numbers. AreListed steps.old.items (row_proofs (table_of scopes.now) place.0 (map place_number terms.now) (typings_of proofs.now)) steps.new.items numbers.items) }
 {
     let mut numbers = Vec::with_capacity(alloc, proofs.len())?;
-    for proof in proofs {
-        let about = place_or(terms, numbers.len(), place);
+    for i in 0..proofs.len() {
+        let proof = &proofs[i];
+        let about = place_or(terms, i, place);
         let last = list_typing(alloc, steps, scopes, about, proof)?;
         numbers.push(last)?;
     }
@@ -119,15 +114,15 @@ fn list_side(
     alloc: Global,
     steps: &mut Vec<Step>,
     premises: &mut Vec<usize>,
-    side: Option<Box<SubProof>>,
+    side: &Option<Box<SubProof>>,
 ) -> Result<(), AllocError>
     ensures { OnOk result ((start : List RustStep) (ps : Proofs) → AreListed start ps steps.old.items premises.old.items
-        → AreListed start (with_side ps (option_map (λ q. sub_tree_of q.value) side)) steps.new.items premises.new.items) }
+        → AreListed start (with_side ps (option_map (λ q. sub_tree_of q.value) side.now)) steps.new.items premises.new.items) }
 {
     match side {
         None => Ok(()),
         Some(proof) => {
-            let last = list_sub(alloc, steps, Box::into_inner(proof))?;
+            let last = list_sub(alloc, steps, proof)?;
             premises.push(last)?;
             Ok(())
         }
@@ -137,20 +132,16 @@ fn list_side(
 /// Appends the steps of a subtyping proof, and returns the index of the last one.
 #[cycle(list_sub)]
 #[tactic(auto, using(lam_rules::proofs::SubShapes::sub_nodes))]
-fn list_sub(alloc: Global, steps: &mut Vec<Step>, proof: SubProof) -> Result<usize, AllocError>
-    ensures steps { IfOk result (λ _. map step_of steps.new.items ≡ map step_of steps.old.items ++ steps_of (length steps.old.items) (sub_proof (sub_tree_of proof))) }
-    ensures last { IfOk result (λ last. last ≡ length steps.old.items + steps_before (sub_proof (sub_tree_of proof))) }
+fn list_sub(alloc: Global, steps: &mut Vec<Step>, proof: &SubProof) -> Result<usize, AllocError>
+    ensures steps { IfOk result (λ _. map step_of steps.new.items ≡ map step_of steps.old.items ++ steps_of (length steps.old.items) (sub_proof (sub_tree_of proof.now))) }
+    ensures last { IfOk result (λ last. last ≡ length steps.old.items + steps_before (sub_proof (sub_tree_of proof.now))) }
 {
-    let SubProof {
-        rule,
-        lower,
-        upper,
-        premises: proofs,
-    } = proof;
-    let premises = list_subs(alloc, steps, proofs)?;
+    let premises = list_subs(alloc, steps, &proof.premises)?;
+    let lower = copy_of(&proof.lower)?;
+    let upper = copy_of(&proof.upper)?;
     let last = steps.len();
     steps.push(Step::Sub {
-        rule,
+        rule: proof.rule,
         lower,
         upper,
         premises,
@@ -163,9 +154,9 @@ fn list_sub(alloc: Global, steps: &mut Vec<Step>, proof: SubProof) -> Result<usi
 fn list_subs(
     alloc: Global,
     steps: &mut Vec<Step>,
-    proofs: Vec<SubProof>,
+    proofs: &[SubProof],
 ) -> Result<Vec<usize>, AllocError>
-    ensures { IfOk result (λ numbers. AreListed steps.old.items (sub_proofs (sub_trees_of proofs.items)) steps.new.items numbers.items) }
+    ensures { IfOk result (λ numbers. AreListed steps.old.items (sub_proofs (sub_trees_of proofs.now)) steps.new.items numbers.items) }
 {
     let mut numbers = Vec::with_capacity(alloc, proofs.len())?;
     for proof in proofs {

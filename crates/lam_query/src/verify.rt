@@ -14,12 +14,12 @@ ghost use Rattle.lam_scope.specs.Places.{places_of};
 ghost use Rattle.lam_scope.specs.PlacedTerms.{document_terms, term_of, tree_in};
 ghost use Rattle.lam_scope.specs.Tables.{binder_numbered, place_row_numbered, visible_at};
 ghost use Rattle.lam_scope.specs.TableViews.{binder_number};
-ghost use Rattle.lam_scope.specs.Views.{AreScopesOf, table_of, statements_of};
+ghost use Rattle.lam_scope.specs.Views.{table_of, statements_of};
 ghost use Rattle.lam_syntax.specs.Trees.{CommandTree};
 ghost use Rattle.lam_typing.specs.Contexts.{IsContext};
 ghost use Rattle.lam_typing.specs.Fitting.{FitsAt};
 ghost use Rattle.lam_typing.specs.Typings.{dialect_of};
-ghost use Rattle.lam_query.specs.Steps.{typing, subtyping, steps_of, typing_proof};
+ghost use Rattle.lam_query.specs.Steps.{typing, subtyping};
 ghost use Rattle.lam_query.specs.Views.{derivation_of, entry_of, step_of};
 ghost use Rattle.lam_query.specs.FirstFaults.{DifferFirst, IsFirstUnfitEntry, IsResult, entries_listed, last_span, span_in};
 ghost use Rattle.lam_query.specs.Judgements.{IsFirstFailing, judgements};
@@ -117,7 +117,7 @@ fn entries_of(
     let mut entries = Vec::with_capacity(alloc, context.len())?;
     for i in 0..context.len() {
         let entry = &context[i];
-        entries.push(copy_of_entry(alloc, &entry.1)?)?;
+        entries.push(copy_of_entry(&entry.1)?)?;
     }
     Ok(entries)
 }
@@ -169,7 +169,7 @@ impl TypedText {
             let number = claim.first_wrong_step(alloc, term, self.dialect)?;
             return Ok(Some(FirstFault::Step(number)));
         }
-        let steps = claim.steps_about(alloc, &self.scopes, place)?;
+        let steps = steps_of_proof(alloc, &self.scopes, place, claim.proof)?;
         match first_other(&claim.derivation.steps, &steps) {
             Some(number) => Ok(Some(FirstFault::Range(number))),
             None => Ok(None),
@@ -212,25 +212,7 @@ impl Claim<'_> {
             IfOk result (λ number. IsFirstFailing dialect 0 all number) }
     {
         let mut context = entries_of(alloc, &self.derivation.context)?;
-        wrong_step(alloc, &mut context, term, self.proof, 0, dialect)
-    }
-
-    /// The steps that a derivation with this proof would have if it were about this term. They are given the types of a proof of
-    /// their own.
-    fn steps_about(
-        &self,
-        alloc: Global,
-        scopes: &Scopes,
-        place: Place,
-    ) -> Result<Vec<Step>, AllocError>
-        requires { IsClaim self.now }
-        ensures { IfOk result (λ steps. (commands : List CommandTree) → AreScopesOf scopes.now commands
-            → map step_of steps.items ≡ steps_of 0 (typing_proof (tree_in (document_terms commands) place.0) (typing_tree_of self.now.proof.now))) }
-    {
-        let Some(proof) = proof_of_steps(alloc, &self.derivation.steps)? else {
-            unreachable!();
-        };
-        steps_of_proof(alloc, scopes, place, proof)
+        wrong_step(&mut context, term, self.proof, 0, dialect)
     }
 }
 

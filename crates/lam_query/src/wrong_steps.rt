@@ -8,13 +8,12 @@ ghost use Rattle.lam_rules.specs.TypingViews.{context_of, typing_tree_of, typing
 ghost use Rattle.lam_query.specs.Judgements.{AllFollow, IsFirstFailing, about, fields_in, first_type, judgements, judgements_each, parts_in, side_judgements, side_steps_in, steps_in, steps_in_each, sub_judgements, sub_judgements_each, sub_steps_in, sub_steps_in_each, subjects};
 
 use lam_rules::{Core, Dialect, SubProof, Ty, TypeProof, TypeRule, check_sub, check_type, copy_of};
-use std::alloc::{AllocError, Global};
+use std::alloc::AllocError;
 
 /// Returns the index of the first step that does not follow by its rule, in a proof that is not valid for the term. The steps are
 /// counted from `start`. Nothing is promised of the context on return.
 #[cycle(wrong_step)]
 pub(crate) fn wrong_step(
-    alloc: Global,
     context: &mut Vec<Option<Ty>>,
     term: &Core,
     proof: &TypeProof,
@@ -25,15 +24,7 @@ pub(crate) fn wrong_step(
     requires room { start + steps_in (typing_tree_of proof.now) < 2 ^ 64 }
     ensures { IfOk result (λ number. IsFirstFailing dialect start (judgements (context_of context.old.items) (term_of term.now) (typing_tree_of proof.now)) number) }
 {
-    let found = wrong_premise(
-        alloc,
-        context,
-        term,
-        proof.rule,
-        &proof.typing,
-        start,
-        dialect,
-    )?;
+    let found = wrong_premise(context, term, proof.rule, &proof.typing, start, dialect)?;
     if let Some(number) = found {
         return Ok(number);
     }
@@ -47,7 +38,6 @@ pub(crate) fn wrong_step(
 /// The same for the proofs of the premises of a step by this rule about the term; `None` if they are valid.
 #[cycle(wrong_step)]
 fn wrong_premise(
-    alloc: Global,
     context: &mut Vec<Option<Ty>>,
     term: &Core,
     rule: TypeRule,
@@ -63,12 +53,12 @@ fn wrong_premise(
     let mut at = start;
     for k in 0..premises.len() {
         let premise = &premises[k];
-        let Some(part) = enter(alloc, context, term, rule, premises, k)? else {
+        let Some(part) = enter(context, term, rule, premises, k)? else {
             // No later premise is about a part either.
             return Ok(None);
         };
         if !check_type(context, part, premise, dialect) {
-            let number = wrong_step(alloc, context, part, premise, at, dialect)?;
+            let number = wrong_step(context, part, premise, at, dialect)?;
             return Ok(Some(number));
         }
         context.truncate(depth);
@@ -80,7 +70,6 @@ fn wrong_premise(
 /// Returns the part of the term that premise `k` of a step by this rule is about, if there is one, and adds the context entry of
 /// the binder around it, if there is one.
 fn enter<'t>(
-    alloc: Global,
     context: &mut Vec<Option<Ty>>,
     term: &'t Core,
     rule: TypeRule,
@@ -93,14 +82,13 @@ fn enter<'t>(
 {
     match rule {
         TypeRule::Sub => Ok(only(term, k)),
-        _ => enter_part(alloc, context, term, premises, k),
+        _ => enter_part(context, term, premises, k),
     }
 }
 
 /// The same for all rules except T-Sub.
 #[tactic(auto, using(lam_rules::proofs::TermShapes::term_shapes))]
 fn enter_part<'t>(
-    alloc: Global,
     context: &mut Vec<Option<Ty>>,
     term: &'t Core,
     premises: &[TypeProof],
@@ -116,7 +104,7 @@ fn enter_part<'t>(
         Core::Pred(part) => Ok(only(part, k)),
         Core::IsZero(part) => Ok(only(part, k)),
         Core::Abs(parts) => {
-            push_entry(context, copy_of_entry(alloc, &parts.0)?)?;
+            push_entry(context, copy_of_entry(&parts.0)?)?;
             Ok(only(&parts.1, k))
         }
         Core::App(parts) => Ok(of_two(&parts.0, &parts.1, k)),
@@ -125,7 +113,7 @@ fn enter_part<'t>(
             if k == 0 {
                 return Ok(Some(&parts.0));
             }
-            push_entry(context, first_type(alloc, premises)?)?;
+            push_entry(context, first_type(premises)?)?;
             Ok(only(&parts.1, k - 1))
         }
         Core::Record(fields) => Ok(of_fields(fields, k)),
@@ -187,22 +175,22 @@ fn push_entry(context: &mut Vec<Option<Ty>>, entry: Option<Ty>) -> Result<(), Al
 }
 
 /// Returns a copy of a context entry.
-pub(crate) fn copy_of_entry(alloc: Global, entry: &Option<Ty>) -> Result<Option<Ty>, AllocError>
+pub(crate) fn copy_of_entry(entry: &Option<Ty>) -> Result<Option<Ty>, AllocError>
     ensures { IfOk result (λ made. written_of made ≡ written_of entry.now) }
 {
     match entry {
-        Some(ty) => Ok(Some(copy_of(alloc, ty)?)),
+        Some(ty) => Ok(Some(copy_of(ty)?)),
         None => Ok(None),
     }
 }
 
 /// The type that the first premise concludes.
 #[tactic(auto, using(lam_rules::proofs::TypingShapes::typing_shapes))]
-fn first_type(alloc: Global, premises: &[TypeProof]) -> Result<Option<Ty>, AllocError>
+fn first_type(premises: &[TypeProof]) -> Result<Option<Ty>, AllocError>
     ensures { IfOk result (λ made. written_of made ≡ first_type (typings_of premises.now)) }
 {
     match premises.first() {
-        Some(first) => Ok(Some(copy_of(alloc, &first.ty)?)),
+        Some(first) => Ok(Some(copy_of(&first.ty)?)),
         None => Ok(None),
     }
 }

@@ -1,6 +1,7 @@
 -- How types are seen as trees: the tree at each variant, what a tree says of its type, and lists of fields.
-use Rattle.std.proofs.Common.{◌≡◌, ℕ, ◌+◌, ◌<◌, List, [], ◌∷◌, map, String, string_bytes, length, drop, get_or, ap, sym, ◌∙◌, refl, Box, drop-cons, add-one, subst, suc, arith, ◌++◌, codes, ◌≢◌, append_assoc, ◌≤◌, Vec}
+use Rattle.std.proofs.Common.{◌≡◌, ℕ, ◌+◌, ◌<◌, List, [], ◌∷◌, map, String, string_bytes, length, drop, get_or, ap, sym, ◌∙◌, refl, drop-cons, add-one, subst, suc, arith, ◌++◌, codes, ◌≢◌, append_assoc, ◌≤◌, Vec}
 use Rattle.std.specs.declared.alloc.Global.{Global}
+use Rattle.std.specs.declared.rc.Rc.{Rc}
 use Rattle.std.proofs.lemmas.List.{drop_all}
 use Rattle.lam_rules.specs.Texts.{Text, left_of_arrow, separator_before}
 use Rattle.lam_rules.specs.Types.{joined, Typ, bool, nat, unit, top, arrow, record_of, Fields, no_fields, field}
@@ -28,7 +29,7 @@ pub typ_of-Top : typ_of Top ≡ top
 unfolding typ_of
 typ_of-Top = ap typ_of (sym rolls-Top) ∙ fold-roll-Ty Typ Fields typ_step fields_step Ty-F.Top
 
-pub typ_of-Arrow : (s t : Box Ty Global) → typ_of (Arrow s t) ≡ arrow (typ_of s.value) (typ_of t.value)
+pub typ_of-Arrow : (s t : Rc Ty Global) → typ_of (Arrow s t) ≡ arrow (typ_of s.value) (typ_of t.value)
 unfolding typ_of
 typ_of-Arrow s t = ap typ_of (sym (rolls-Arrow s t)) ∙ fold-roll-Ty Typ Fields typ_step fields_step (Ty-F.Arrow s t)
 
@@ -36,21 +37,21 @@ fields_made-map : (fs : List (String Global × Ty)) → fields_made (map (λ f. 
 fields_made-map [] = refl
 fields_made-map (f ∷ fs) = ap (λ rest. field (string_bytes f.0) (typ_of f.1) rest) (fields_made-map fs)
 
-pub typ_of-Record : (fs : RustFields) → typ_of (Record fs) ≡ record_of (fields_of (out-Fields fs).items.items)
+pub typ_of-Record : (fs : RustFields) → typ_of (Record fs) ≡ record_of (fields_of (out-Fields fs).items.value.items)
 unfolding typ_of
 typ_of-Record fs =
     ap typ_of (sym (rolls-Record fs))
     ∙ fold-roll-Ty Typ Fields typ_step fields_step (Ty-F.Record fs)
-    ∙ ap record_of (fold_out-Fields Typ Fields typ_step fields_step fs ∙ fields_made-map (out-Fields fs).items.items)
+    ∙ ap record_of (fold_out-Fields Typ Fields typ_step fields_step fs ∙ fields_made-map (out-Fields fs).items.value.items)
 
 -- a record type made of a list
-pub typ_of-made : (items : Vec (String Global × Ty) Global) → typ_of (Record (roll-Fields record { items = items })) ≡ record_of (fields_of items.items)
-typ_of-made items = typ_of-Record (roll-Fields record { items = items }) ∙ ap (λ f. record_of (fields_of f.items.items)) (out-roll-Fields record { items = items })
+pub typ_of-made : (items : Rc (Vec (String Global × Ty) Global) Global) → typ_of (Record (roll-Fields record { items = items })) ≡ record_of (fields_of items.value.items)
+typ_of-made items = typ_of-Record (roll-Fields record { items = items }) ∙ ap (λ f. record_of (fields_of f.items.value.items)) (out-roll-Fields record { items = items })
 
 -- what holds of each variant holds of each type
 pub ty_cases : (P : Ty → Type 0)
     → P Bool → P Nat → P UnitType → P Top
-    → ((s t : Box Ty Global) → P (Arrow s t))
+    → ((s t : Rc Ty Global) → P (Arrow s t))
     → ((fs : RustFields) → P (Record fs))
     → (t : Ty) → P t
 ty_cases P b n u p a r t = subst P (roll-out-Ty t) (rolled (out-Ty t))
@@ -85,8 +86,8 @@ is-Top = ty_cases (λ t. typ_of t ≡ top → t ≡ Top)
     (λ e. cc typ_of-Bool) (λ e. cc typ_of-Nat) (λ e. cc typ_of-Unit) (λ e. refl)
     (λ s u e. cc (typ_of-Arrow s u)) (λ fs e. cc (typ_of-Record fs))
 
-pub no_arrow : (t : Ty) (x y : Typ) → ((s u : Box Ty Global) → t ≡ Arrow s u → ⊥) → typ_of t ≡ arrow x y → ⊥
-no_arrow t x y = ty_cases (λ t. ((s u : Box Ty Global) → t ≡ Arrow s u → ⊥) → typ_of t ≡ arrow x y → ⊥)
+pub no_arrow : (t : Ty) (x y : Typ) → ((s u : Rc Ty Global) → t ≡ Arrow s u → ⊥) → typ_of t ≡ arrow x y → ⊥
+no_arrow t x y = ty_cases (λ t. ((s u : Rc Ty Global) → t ≡ Arrow s u → ⊥) → typ_of t ≡ arrow x y → ⊥)
     (λ n e. cc typ_of-Bool) (λ n e. cc typ_of-Nat) (λ n e. cc typ_of-Unit) (λ n e. cc typ_of-Top)
     (λ s u n e. n s u refl) (λ fs n e. cc (typ_of-Record fs)) t
 
@@ -95,8 +96,8 @@ no_record t gs = ty_cases (λ t. ((fs : RustFields) → t ≡ Record fs → ⊥)
     (λ n e. cc typ_of-Bool) (λ n e. cc typ_of-Nat) (λ n e. cc typ_of-Unit) (λ n e. cc typ_of-Top)
     (λ s u n e. cc (typ_of-Arrow s u)) (λ fs n e. n fs refl) t
 
-pub left_of_arrow-other : (t : Ty) (x : Text) → ((s u : Box Ty Global) → t ≡ Arrow s u → ⊥) → left_of_arrow (typ_of t) x ≡ x
-left_of_arrow-other t x = ty_cases (λ t. ((s u : Box Ty Global) → t ≡ Arrow s u → ⊥) → left_of_arrow (typ_of t) x ≡ x)
+pub left_of_arrow-other : (t : Ty) (x : Text) → ((s u : Rc Ty Global) → t ≡ Arrow s u → ⊥) → left_of_arrow (typ_of t) x ≡ x
+left_of_arrow-other t x = ty_cases (λ t. ((s u : Rc Ty Global) → t ≡ Arrow s u → ⊥) → left_of_arrow (typ_of t) x ≡ x)
     (λ n. rw typ_of-Bool) (λ n. rw typ_of-Nat) (λ n. rw typ_of-Unit) (λ n. rw typ_of-Top)
     (λ s u n. absurd (n s u refl)) (λ fs n. rw (typ_of-Record fs)) t
 

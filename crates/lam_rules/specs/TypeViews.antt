@@ -22,7 +22,7 @@ typ_step (Ty-F.Record fs) = record_of fs
 
 -- the fields of one level, whose types are already trees
 abbrev pub fields_step : Fields-F Typ Fields → Fields
-fields_step fs = fields_made fs.items.items
+fields_step fs = fields_made fs.items.value.items
 
 -- the tree of a type
 unfoldable pub typ_of : Ty → Typ

@@ -202,7 +202,7 @@ impl TyTable {
         Ok(items)
     }
 
-    /// Returns the type with this id as a tree, which shares nothing.
+    /// Returns the type with this id as a tree.
     #[cycle(tree)]
     pub fn tree(&self, number: TyNo) -> Result<Ty, AllocError>
         requires { Stands self.now number }
@@ -220,7 +220,7 @@ impl TyTable {
             }
             Shape::Record(fields) => {
                 let items = self.tree_fields(fields)?;
-                Ok(make_record(items))
+                make_record(self.alloc, items)
             }
         }
     }

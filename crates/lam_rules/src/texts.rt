@@ -106,7 +106,7 @@ fn sorted_of(alloc: Global, ty: &Ty) -> Result<Ty, AllocError>
         }
         Ty::Record(fields) => {
             let items = sorted_fields_of(alloc, &fields.items)?;
-            Ok(make_record(items))
+            make_record(alloc, items)
         }
     }
 }

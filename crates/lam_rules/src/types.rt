@@ -5,15 +5,16 @@ ghost use Rattle.lam_rules.specs.Types.{IsWellFormed, AreWellFormed, IsAbsent, H
 ghost use Rattle.lam_rules.specs.TypeViews.{typ_of, fields_of};
 
 use std::alloc::{AllocError, Global};
+use std::rc::Rc;
 
 /// The fields of a record type, in order.
 #[cycle(types)]
 #[derive(Drop)]
 pub struct Fields {
-    pub items: Vec<(String, Ty)>,
+    pub items: Rc<Vec<(String, Ty)>>,
 }
 
-/// A type.
+/// A type. Its copies share its parts, so that a large type is copied as fast as a small one.
 #[cycle(types)]
 #[derive(Drop)]
 pub enum Ty {
@@ -21,7 +22,7 @@ pub enum Ty {
     Nat,
     Unit,
     Top,
-    Arrow(Box<Ty>, Box<Ty>),
+    Arrow(Rc<Ty>, Rc<Ty>),
     Record(Fields),
 }
 
@@ -29,14 +30,15 @@ pub enum Ty {
 pub fn make_arrow(alloc: Global, parameter: Ty, outcome: Ty) -> Result<Ty, AllocError>
     ensures { IfOk result (λ made. typ_of made ≡ arrow (typ_of parameter) (typ_of outcome)) }
 {
-    Ok(Ty::Arrow(Box::new(alloc, parameter)?, Box::new(alloc, outcome)?))
+    Ok(Ty::Arrow(Rc::new(alloc, parameter)?, Rc::new(alloc, outcome)?))
 }
 
 /// Makes a record type of these fields, in this order.
-pub fn make_record(items: Vec<(String, Ty)>) -> Ty
-    ensures { typ_of result ≡ record_of (fields_of items.items) }
+pub fn make_record(alloc: Global, items: Vec<(String, Ty)>) -> Result<Ty, AllocError>
+    ensures { IfOk result (λ made. typ_of made ≡ record_of (fields_of items.items)) }
 {
-    Ty::Record(Fields { items })
+    let items = Rc::new(alloc, items)?;
+    Ok(Ty::Record(Fields { items }))
 }
 
 /// Whether the labels of each record type in `ty` are distinct, at every depth.
@@ -181,9 +183,8 @@ pub fn same_fields(left: &[(String, Ty)], right: &[(String, Ty)]) -> bool
     true
 }
 
-/// Returns a deep copy of a type. Fails if allocation fails.
-#[cycle(copy_of)]
-pub fn copy_of(alloc: Global, ty: &Ty) -> Result<Ty, AllocError>
+/// Returns a copy of a type, which shares its parts.
+pub fn copy_of(ty: &Ty) -> Result<Ty, AllocError>
     ensures { IfOk result (λ copy. typ_of copy ≡ typ_of ty.now) }
 {
     match ty {
@@ -191,20 +192,15 @@ pub fn copy_of(alloc: Global, ty: &Ty) -> Result<Ty, AllocError>
         Ty::Nat => Ok(Ty::Nat),
         Ty::Unit => Ok(Ty::Unit),
         Ty::Top => Ok(Ty::Top),
-        Ty::Arrow(parameter, outcome) => {
-            let parameter_copy = copy_of(alloc, parameter)?;
-            let outcome_copy = copy_of(alloc, outcome)?;
-            make_arrow(alloc, parameter_copy, outcome_copy)
-        }
+        Ty::Arrow(parameter, outcome) => Ok(Ty::Arrow(parameter.clone()?, outcome.clone()?)),
         Ty::Record(fields) => {
-            let items = copy_of_fields(alloc, &fields.items)?;
-            Ok(make_record(items))
+            let items = fields.items.clone()?;
+            Ok(Ty::Record(Fields { items }))
         }
     }
 }
 
-/// Returns a deep copy of a list of fields. Fails if allocation fails.
-#[cycle(copy_of)]
+/// Returns copies of fields. Fails if allocation fails.
 pub fn copy_of_fields(
     alloc: Global,
     fields: &[(String, Ty)],
@@ -215,7 +211,7 @@ pub fn copy_of_fields(
     for i in 0..fields.len() {
         let field = &fields[i];
         let label = field.0.clone()?;
-        let ty = copy_of(alloc, &field.1)?;
+        let ty = copy_of(&field.1)?;
         copies.push((label, ty))?;
     }
     Ok(copies)

@@ -164,7 +164,7 @@ pub(crate) fn expand(
         TyNode::Top => Ok(Some(Ty::Top)),
         TyNode::Named(name) => match seen.find(name.text.as_str()) {
             None => Ok(None),
-            Some(abbreviation) => copy_of_written(alloc, &abbreviation.expansion),
+            Some(abbreviation) => copy_of_written(&abbreviation.expansion),
         },
         TyNode::Arrow(arrow) => {
             let Some(parameter_type) = expand(alloc, seen, &arrow.parameter)? else {
@@ -180,22 +180,20 @@ pub(crate) fn expand(
             let Some(items) = expand_fields(alloc, seen, fields)? else {
                 return Ok(None);
             };
-            Ok(Some(make_record(items)))
+            let made = make_record(alloc, items)?;
+            Ok(Some(made))
         }
     }
 }
 
-/// Returns a deep copy of an expansion.
-pub(crate) fn copy_of_written(
-    alloc: Global,
-    expansion: &Option<Ty>,
-) -> Result<Option<Ty>, AllocError>
+/// Returns a copy of an expansion.
+pub(crate) fn copy_of_written(expansion: &Option<Ty>) -> Result<Option<Ty>, AllocError>
     ensures { IfOk result (λ w. written_of w ≡ written_of expansion.now) }
 {
     match expansion {
         None => Ok(None),
         Some(ty) => {
-            let copy = copy_of(alloc, ty)?;
+            let copy = copy_of(ty)?;
             Ok(Some(copy))
         }
     }

@@ -1,6 +1,6 @@
 //! The nameless forms of terms over the ids of a type table. Each level of nesting takes the stack frames of the match and of one
 //! arm only, so that the deepest term of a command fits on the stack.
-ghost use Rattle.std.specs.Prelude.{◌≡◌, ◌∷◌, [], List, IfOk, OnOk};
+ghost use Rattle.std.specs.Prelude.{◌≡◌, ◌∷◌, List, OnOk};
 ghost use Rattle.std.specs.Option.{option_map};
 ghost use Rattle.lam_rules.specs.Types.{Typ};
 ghost use Rattle.lam_syntax.specs.Letters.{letters};

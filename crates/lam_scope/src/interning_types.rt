@@ -2,7 +2,7 @@
 //! where an abbreviation is used again.
 ghost use Rattle.std.specs.Prelude.{◌≡◌, ◌++◌, ◌∷◌, [], Some, None, length, if◌then◌else◌, IfOk, OnOk};
 ghost use Rattle.lam_rules.specs.Types.{arrow as arrow_type};
-ghost use Rattle.lam_rules.specs.Numbers.{Keeps, IsNumberOf, IsOver, HasDistinctLabels, shaped, Stands};
+ghost use Rattle.lam_rules.specs.Numbers.{Keeps, IsOver, HasDistinctLabels, shaped};
 ghost use Rattle.lam_syntax.specs.Letters.{letters};
 ghost use Rattle.lam_syntax.specs.Trees.{arrow as arrow_node, record_type};
 ghost use Rattle.lam_syntax.specs.Views.{type_node_of, type_of, type_fields_of};

@@ -1,5 +1,5 @@
 //! Renaming a binder together with its uses.
-ghost use Rattle.std.specs.Prelude.{◌≡◌, ◌↔◌, ◌∷◌, List, length, map, slice_index_or, [], IfOk, IfErr, IsTrue};
+ghost use Rattle.std.specs.Prelude.{◌≡◌, ◌↔◌, ◌∷◌, List, map, slice_index_or, [], IfOk, IfErr, IsTrue};
 ghost use Rattle.std.specs.Option.{option_map};
 ghost use Rattle.std.specs.List.{list_all};
 ghost use Rattle.lam_token.specs.Edits.{IsOne, IsNameKind};
@@ -8,7 +8,7 @@ ghost use Rattle.lam_syntax.specs.Trees.{CommandTree};
 ghost use Rattle.lam_scope.specs.Names.{binds};
 ghost use Rattle.lam_scope.specs.Tables.{binder_in, binder_numbered};
 ghost use Rattle.lam_scope.specs.TableViews.{binder_number, binder_of, origin_of, text_binder, text_use, rows_of};
-ghost use Rattle.lam_scope.specs.inner.Bearers.{bears, told_of, bearers, name_by, takes, is_answer, keeps, all_keep, IsUnfit};
+ghost use Rattle.lam_scope.specs.inner.Bearers.{bears, told_of, bearers, takes, is_answer, keeps, all_keep, IsUnfit};
 ghost use Rattle.lam_scope.specs.Renames.{kind_bound, HasName, AreRenamed, IsRefused};
 ghost use Rattle.lam_scope.specs.Views.{AreScopesOf, table_of, uses_in};
 

@@ -78,7 +78,7 @@ impl<'a> Resolver<'a> {
             }
             Command::Abbreviation(name, ty) => {
                 let expansion = nameless_type(forming, seen, ty)?;
-                let copy = copy_of_written(forming.alloc, &expansion)?;
+                let copy = copy_of_written(&expansion)?;
                 self.abbreviations.add(name.text.as_str(), expansion)?;
                 Ok(Statement::Abbreviation(copy))
             }

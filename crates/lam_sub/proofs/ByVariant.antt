@@ -1,6 +1,7 @@
 -- What a test of two types says, at each pair of variants.
-use Rattle.std.proofs.Common.{◌≡◌, ◌⊎◌, ◌↔◌, ◌+◌, ◌<◌, List, Bool, true, false, IsTrue, ap, sym, ◌∙◌, refl, inl, inr, subst, Box, Vec, String, string_bytes, drop, length, get_or, ℕ}
+use Rattle.std.proofs.Common.{◌≡◌, ◌⊎◌, ◌↔◌, ◌+◌, ◌<◌, List, Bool, true, false, IsTrue, ap, sym, ◌∙◌, refl, inl, inr, subst, Vec, String, string_bytes, drop, length, get_or, ℕ}
 use Rattle.std.specs.declared.alloc.Global.{Global}
+use Rattle.std.specs.declared.rc.Rc.{Rc}
 use Rattle.lam_rules.specs.Types.{Label, Typ, bool, nat, record_of, Fields, Has, nodes, nodes_in, IsWellFormed, AreWellFormed}
 use Rattle.lam_rules.specs.TypeViews.{typ_of, fields_of}
 use Rattle.lam_rules.specs.Subtyping.{IsBelow}
@@ -49,19 +50,19 @@ bool_and_nat s t d r is_bool is_nat decides = (
     by (inl e) = cc (typ_of-Bool, is_bool)
     by (inr e) = decides.1 e.1
 
-pub not_arrow : (s t : Ty) (x y : Box Ty Global) (d : Dialect) → t ≡ Arrow x y → ((a b : Box Ty Global) → s ≡ Arrow a b → ⊥) → IsTrue false ↔ IsBelow (typ_of s) (typ_of t) d
+pub not_arrow : (s t : Ty) (x y : Rc Ty Global) (d : Dialect) → t ≡ Arrow x y → ((a b : Rc Ty Global) → s ≡ Arrow a b → ⊥) → IsTrue false ↔ IsBelow (typ_of s) (typ_of t) d
 not_arrow s t x y d is n = false_here (λ below.
     let found = below_arrow_is (typ_of s) (typ_of x.value) (typ_of y.value) d (subst (λ u. IsBelow (typ_of s) u d) (ap typ_of is ∙ typ_of-Arrow x y) below) in
     no_arrow s found.0 found.1 n found.2)
 
 pub not_record : (s t : Ty) (gs : RustFields) (d : Dialect) → t ≡ Record gs → ((fs : RustFields) → s ≡ Record fs → ⊥) → IsTrue false ↔ IsBelow (typ_of s) (typ_of t) d
 not_record s t gs d is n = false_here (λ below.
-    let found = below_record_is (typ_of s) (fields_of (out-Fields gs).items.items) d (subst (λ u. IsBelow (typ_of s) u d) (ap typ_of is ∙ typ_of-Record gs) below) in
+    let found = below_record_is (typ_of s) (fields_of (out-Fields gs).items.value.items) d (subst (λ u. IsBelow (typ_of s) u d) (ap typ_of is ∙ typ_of-Record gs) below) in
     no_record s found.0 n found.1)
 
 -- two arrows: the test of the parameters, then that of the outcomes
 
-pub two_arrows : (s t : Ty) (a b x y : Box Ty Global) (d : Dialect) → s ≡ Arrow a b → t ≡ Arrow x y
+pub two_arrows : (s t : Ty) (a b x y : Rc Ty Global) (d : Dialect) → s ≡ Arrow a b → t ≡ Arrow x y
     → (IsBelow (typ_of x.value) (typ_of a.value) d × IsBelow (typ_of b.value) (typ_of y.value) d) ↔ IsBelow (typ_of s) (typ_of t) d
 two_arrows s t a b x y d is_s is_t = rw (is_s, is_t, typ_of-Arrow a b, typ_of-Arrow x y) (arrow_iff (typ_of a.value) (typ_of b.value) (typ_of x.value) (typ_of y.value) d)
 
@@ -73,21 +74,21 @@ arrows_rest A B C r q both holds first second = ((λ t. both.0 (first.0 holds, s
 
 -- records, seen as lists of fields
 
-pub record_seen : (t : Ty) (fields : Vec (String Global × Ty) Global) (xs : List (String Global × Ty)) → t ≡ Record (roll-Fields record { items = fields }) → xs ≡ fields.items
-    → record_of (fields_of xs) ≡ typ_of t
-record_seen t fields xs is same = ap (λ ys. record_of (fields_of ys)) same ∙ sym (typ_of-made fields) ∙ sym (ap typ_of is)
+pub record_seen : (t : Ty) (fields : Rc (Vec (String Global × Ty) Global) Global) (shared : Vec (String Global × Ty) Global) (xs : List (String Global × Ty))
+    → t ≡ Record (roll-Fields record { items = fields }) → shared ≡ fields.value → xs ≡ shared.items → record_of (fields_of xs) ≡ typ_of t
+record_seen t fields shared xs is share same = ap (λ ys. record_of (fields_of ys)) (same ∙ ap (λ v. v.items) share) ∙ sym (typ_of-made fields) ∙ sym (ap typ_of is)
 
 pub nodes_of_record : (t : Ty) (xs : List (String Global × Ty)) → record_of (fields_of xs) ≡ typ_of t → nodes (typ_of t) ≡ 1 + nodes_in (fields_of xs)
 nodes_of_record t xs seen = ap nodes (sym seen)
 
-pub nodes_of_arrow : (t a b : Ty) (x y : Box Ty Global) → t ≡ Arrow x y → a ≡ x.value → b ≡ y.value → nodes (typ_of t) ≡ 1 + nodes (typ_of a) + nodes (typ_of b)
+pub nodes_of_arrow : (t a b : Ty) (x y : Rc Ty Global) → t ≡ Arrow x y → a ≡ x.value → b ≡ y.value → nodes (typ_of t) ≡ 1 + nodes (typ_of a) + nodes (typ_of b)
 nodes_of_arrow t a b x y is is_a is_b = rw (is_a, is_b) (ap nodes (ap typ_of is ∙ typ_of-Arrow x y))
 
 -- what is left beside Top, arrows and records
-pub only_bool_and_nat : (s t : Ty) (d : Dialect) → (t ≡ Top → ⊥) → ((x y : Box Ty Global) → t ≡ Arrow x y → ⊥) → ((fs : RustFields) → t ≡ Record fs → ⊥)
+pub only_bool_and_nat : (s t : Ty) (d : Dialect) → (t ≡ Top → ⊥) → ((x y : Rc Ty Global) → t ≡ Arrow x y → ⊥) → ((fs : RustFields) → t ≡ Record fs → ⊥)
     → (typ_of s ≡ typ_of t → ⊥) → IsBelow (typ_of s) (typ_of t) d → (typ_of s ≡ bool) × (typ_of t ≡ nat) × (d ≡ Dialect.Two)
 only_bool_and_nat s t d = ty_cases
-    (λ u. (u ≡ Top → ⊥) → ((x y : Box Ty Global) → u ≡ Arrow x y → ⊥) → ((fs : RustFields) → u ≡ Record fs → ⊥)
+    (λ u. (u ≡ Top → ⊥) → ((x y : Rc Ty Global) → u ≡ Arrow x y → ⊥) → ((fs : RustFields) → u ≡ Record fs → ⊥)
     → (typ_of s ≡ typ_of u → ⊥) → IsBelow (typ_of s) (typ_of u) d → (typ_of s ≡ bool) × (typ_of u ≡ nat) × (d ≡ Dialect.Two))
     (λ n_top n_arrow n_record n_same below. absurd (n_same (below_bool (typ_of s) d (subst (λ u. IsBelow (typ_of s) u d) typ_of-Bool below) ∙ sym typ_of-Bool)))
     (λ n_top n_arrow n_record n_same below. by n_same (below_nat (typ_of s) d (subst (λ u. IsBelow (typ_of s) u d) typ_of-Nat below)))

@@ -7,7 +7,7 @@ ghost use Rattle.lam_rules.specs.TypeViews.{typ_of, fields_of};
 ghost use Rattle.lam_sub.specs.OtherFields.{other_fields};
 
 use lam_rules::{Ty, copy_of};
-use std::alloc::{AllocError, Global};
+use std::alloc::AllocError;
 
 /// Returns the type of the field with this label, or `None` if there is none. The search runs from index `near` to the
 /// end and then from the start, and stops at the first match, so it is fast if the field is at `near`.
@@ -38,7 +38,6 @@ fn first_type<'a>(label: &str, fields: &'a [(String, Ty)]) -> Option<&'a Ty>
 
 /// Appends copies of the fields of `more` whose labels are not in `known`. On an error, some may have been appended.
 pub(crate) fn append_others(
-    alloc: Global,
     fields: &mut Vec<(String, Ty)>,
     more: &[(String, Ty)],
     known: &[(String, Ty)],
@@ -51,7 +50,7 @@ pub(crate) fn append_others(
             continue;
         }
         let label = field.0.clone()?;
-        let ty = copy_of(alloc, &field.1)?;
+        let ty = copy_of(&field.1)?;
         fields.push((label, ty))?;
     }
     Ok(())

@@ -46,10 +46,10 @@ fn prove(alloc: Global, lower: &Ty, upper: &Ty, dialect: Dialect) -> Result<SubP
     ensures { IfOk result (λ proof. ProvesBelow (sub_tree_of proof) (typ_of lower.now) (typ_of upper.now) dialect) }
 {
     if same(lower, upper) {
-        return conclude(alloc, SubRule::Refl, Vec::new(alloc), lower, upper);
+        return conclude(SubRule::Refl, Vec::new(alloc), lower, upper);
     }
     match upper {
-        Ty::Top => conclude(alloc, SubRule::Top, Vec::new(alloc), lower, upper),
+        Ty::Top => conclude(SubRule::Top, Vec::new(alloc), lower, upper),
         Ty::Arrow(upper_parameter, upper_outcome) => {
             let Ty::Arrow(lower_parameter, lower_outcome) = lower else {
                 unreachable!();
@@ -62,7 +62,7 @@ fn prove(alloc: Global, lower: &Ty, upper: &Ty, dialect: Dialect) -> Result<SubP
                 upper_outcome,
                 dialect,
             )?;
-            conclude(alloc, SubRule::Arrow, premises, lower, upper)
+            conclude(SubRule::Arrow, premises, lower, upper)
         }
         Ty::Record(upper_fields) => {
             let Ty::Record(lower_fields) = lower else {
@@ -70,7 +70,7 @@ fn prove(alloc: Global, lower: &Ty, upper: &Ty, dialect: Dialect) -> Result<SubP
             };
             prove_record(alloc, &lower_fields.items, &upper_fields.items, dialect)
         }
-        _ => conclude(alloc, SubRule::BoolNat, Vec::new(alloc), lower, upper),
+        _ => conclude(SubRule::BoolNat, Vec::new(alloc), lower, upper),
     }
 }
 
@@ -174,7 +174,7 @@ fn prove_picked(
         return Ok(None);
     }
     let mut arranged = copy_of_fields(alloc, front)?;
-    append_others(alloc, &mut arranged, lower, upper)?;
+    append_others(&mut arranged, lower, upper)?;
     let fields = copy_of_fields(alloc, lower)?;
     let permuted = record_step(alloc, SubRule::RcdPerm, Vec::new(alloc), fields, &arranged)?;
     let cut = record_step(alloc, SubRule::RcdWidth, Vec::new(alloc), arranged, front)?;
@@ -225,7 +225,7 @@ fn picked_fields(
             unreachable!();
         };
         let label = field.0.clone()?;
-        let copy = copy_of(alloc, ty)?;
+        let copy = copy_of(ty)?;
         copies.push((label, copy))?;
     }
     Ok(copies)
@@ -234,7 +234,6 @@ fn picked_fields(
 /// A tree with this last step.
 #[inline(never)]
 fn conclude(
-    alloc: Global,
     rule: SubRule,
     premises: Vec<SubProof>,
     lower: &Ty,
@@ -242,8 +241,8 @@ fn conclude(
 ) -> Result<SubProof, AllocError>
     ensures { IfOk result (λ made. sub_tree_of made ≡ sub_step rule (typ_of lower.now) (typ_of upper.now) (sub_trees_of premises.items)) }
 {
-    let lower = copy_of(alloc, lower)?;
-    let upper = copy_of(alloc, upper)?;
+    let lower = copy_of(lower)?;
+    let upper = copy_of(upper)?;
     Ok(SubProof {
         rule,
         lower,
@@ -269,8 +268,9 @@ fn record_step(
     if same_fields(&lower, upper) {
         return Ok(None);
     }
-    let lower = make_record(lower);
-    let upper = make_record(copy_of_fields(alloc, upper)?);
+    let fields = copy_of_fields(alloc, upper)?;
+    let lower = make_record(alloc, lower)?;
+    let upper = make_record(alloc, fields)?;
     Ok(Some(SubProof {
         rule,
         lower,
@@ -303,8 +303,8 @@ fn chain(
 fn by_transitivity(alloc: Global, first: SubProof, second: SubProof) -> Result<SubProof, AllocError>
     ensures { IfOk result (λ made. (s u t : Typ) (d : Dialect) → ProvesBelow (sub_tree_of first) s u d → ProvesBelow (sub_tree_of second) u t d → ProvesBelow (sub_tree_of made) s t d) }
 {
-    let lower = copy_of(alloc, &first.lower)?;
-    let upper = copy_of(alloc, &second.upper)?;
+    let lower = copy_of(&first.lower)?;
+    let upper = copy_of(&second.upper)?;
     let premises = vec![in alloc; first, second]?;
     Ok(SubProof {
         rule: SubRule::Trans,

@@ -1,5 +1,5 @@
 //! Reading single tokens from the start of a list.
-ghost use Rattle.std.specs.Prelude.{◌≡◌, ◌<◌, IfOk};
+ghost use Rattle.std.specs.Prelude.{◌≡◌, IfOk};
 ghost use Rattle.lam_token.specs.Lexeme.{text_of, span_of};
 ghost use Rattle.lam_syntax.specs.Trees.{word};
 ghost use Rattle.lam_syntax.specs.Views.{word_of};

@@ -150,8 +150,8 @@ fn wanted_of_wide(alloc: Global) -> Result<String, AllocError> {
 
 /// Two records of a thousand fields with five hundred labels in common, in the dialect where Bool is a subtype of Nat.
 fn bounds_of_wide(alloc: Global) -> Result<String, Fail> {
-    let left = well_formed(make_record(fields(alloc, 0, 1_000, &Ty::Nat)?))?;
-    let right = well_formed(make_record(fields(alloc, 500, 1_500, &Ty::Bool)?))?;
+    let left = well_formed(make_record(alloc, fields(alloc, 0, 1_000, &Ty::Nat)?)?)?;
+    let right = well_formed(make_record(alloc, fields(alloc, 500, 1_500, &Ty::Bool)?)?)?;
     Ok(both_bounds(alloc, &left, &right, Two)?)
 }
 
@@ -167,8 +167,8 @@ fn records_of_a_thousand_fields(rt: HostRuntime) -> Result<(), Fail> {
 
 /// Two records of five thousand fields, which is over the size limit of a document.
 fn bounds_of_large(alloc: Global) -> Result<String, Fail> {
-    let left = well_formed(make_record(fields(alloc, 0, 5_000, &Ty::Nat)?))?;
-    let right = well_formed(make_record(fields(alloc, 0, 5_000, &Ty::Bool)?))?;
+    let left = well_formed(make_record(alloc, fields(alloc, 0, 5_000, &Ty::Nat)?)?)?;
+    let right = well_formed(make_record(alloc, fields(alloc, 0, 5_000, &Ty::Bool)?)?)?;
     Ok(both_bounds(alloc, &left, &right, Two)?)
 }
 

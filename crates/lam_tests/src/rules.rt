@@ -14,7 +14,7 @@ use std::test::Fail;
 fn described(alloc: Global, ty: &Ty) -> Result<String, AllocError> {
     let plain = plain_text_of(alloc, ty)?;
     let sorted = text_of(alloc, ty)?;
-    let copy = copy_of(alloc, ty)?;
+    let copy = copy_of(ty)?;
     format!(in alloc;
         "{} {} {} {}",
         size(ty),
@@ -26,7 +26,7 @@ fn described(alloc: Global, ty: &Ty) -> Result<String, AllocError> {
 
 /// The same for `Nat->Nat->..->{l0:Nat, l1:Nat, ..}` with this many arrows and fields.
 fn large(alloc: Global, (depth, labels): (usize, u32)) -> Result<String, AllocError> {
-    let record = make_record(fields(alloc, 0, labels, &Ty::Nat)?);
+    let record = make_record(alloc, fields(alloc, 0, labels, &Ty::Nat)?)?;
     described(alloc, &arrows(alloc, depth, record)?)
 }
 
@@ -53,7 +53,7 @@ fn large_types(rt: HostRuntime) -> Result<(), AllocError> {
 fn labelled_twice(alloc: Global) -> Result<Ty, AllocError> {
     let mut items = fields(alloc, 0, 2, &Ty::Nat)?;
     items.push((String::from_str(alloc, "l0")?, Ty::Bool))?;
-    Ok(make_record(items))
+    make_record(alloc, items)
 }
 
 /// Its texts.

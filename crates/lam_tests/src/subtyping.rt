@@ -201,7 +201,7 @@ fn nested(alloc: Global, last: Ty) -> Result<Ty, Fail>
     for _ in 0..1_000 {
         let mut items = Vec::new(alloc);
         items.push((String::from_str(alloc, "a")?, ty))?;
-        ty = make_record(items);
+        ty = make_record(alloc, items)?;
     }
     well_formed(ty)
 }
@@ -226,19 +226,19 @@ fn downward(alloc: Global) -> Result<Ty, Fail>
 {
     let mut items = fields(alloc, 0, 1_000, &Ty::Nat)?;
     items.reverse();
-    well_formed(make_record(items))
+    well_formed(make_record(alloc, items)?)
 }
 
 /// How the record type with those labels in ascending order is related to that in descending order.
 fn turned(alloc: Global) -> Result<String, Fail> {
-    let upward = well_formed(make_record(fields(alloc, 0, 1_000, &Ty::Nat)?))?;
+    let upward = well_formed(make_record(alloc, fields(alloc, 0, 1_000, &Ty::Nat)?)?)?;
     let downward = downward(alloc)?;
     Ok(related(alloc, &upward, &downward, One)?)
 }
 
 /// How `{l999:Top}` and the ascending record type are related, in both directions.
 fn last_field(alloc: Global) -> Result<String, Fail> {
-    let all = well_formed(make_record(fields(alloc, 0, 1_000, &Ty::Nat)?))?;
+    let all = well_formed(make_record(alloc, fields(alloc, 0, 1_000, &Ty::Nat)?)?)?;
     let one = type_of(alloc, "{l999:Top}")?;
     let upward = related(alloc, &one, &all, One)?;
     let below = related(alloc, &all, &one, One)?;

@@ -63,7 +63,7 @@ pub(crate) fn type_of(alloc: Global, text: &str) -> Result<Ty, Fail>
     let Some(Statement::Declaration(Some(ty))) = resolved.statements().first() else {
         return Err(Fail::new("no type"));
     };
-    well_formed(copy_of(alloc, ty)?)
+    well_formed(copy_of(ty)?)
 }
 
 /// Returns this type if its labels are distinct, otherwise fails.
@@ -95,7 +95,7 @@ pub(crate) fn fields(
 ) -> Result<Vec<(String, Ty)>, AllocError> {
     let mut items = Vec::new(alloc);
     for number in first..end {
-        items.push((format!(in alloc; "l{number}")?, copy_of(alloc, ty)?))?;
+        items.push((format!(in alloc; "l{number}")?, copy_of(ty)?))?;
     }
     Ok(items)
 }

@@ -1,5 +1,5 @@
 //! Updates of the line index when a part of the text is replaced.
-ghost use Rattle.std.specs.Prelude.{◌≡◌, ◌+◌, ◌-◌, ◌^◌, ◌<◌, ◌≤◌, ◌++◌, length, take, drop, map, IfOk, OnOk, All};
+ghost use Rattle.std.specs.Prelude.{◌≡◌, ◌+◌, ◌-◌, ◌^◌, ◌<◌, ◌≤◌, ◌++◌, length, take, drop, map, OnOk, All};
 ghost use Rattle.std.specs.List.{prefix_len};
 ghost use Rattle.lam_text.specs.Lines.{lines_of};
 ghost use Rattle.lam_text.specs.inner.Index.{index_of};

@@ -2,6 +2,7 @@
 use Rattle.std.proofs.Common.{◌≡◌, ℕ, ◌+◌, ◌-◌, arith, List, [], ◌∷◌, ◌++◌, length, get_or, reverse, Vec, Box, String, string_bytes, Option, Some, None, IfSome, ap, refl, sym, subst, ◌∙◌}
 use Rattle.std.specs.Option.{option_map}
 use Rattle.std.specs.declared.alloc.Global.{Global}
+use Rattle.std.specs.declared.rc.Rc.{Rc}
 use Rattle.std.proofs.lemmas.List.{reverse-append}
 use Rattle.lam_rules.specs.Types.{Typ, Fields, field, arrow, record_of}
 use Rattle.lam_rules.specs.TypeViews.{typ_of, fields_of}
@@ -97,13 +98,13 @@ term_none t e behind found all k s g setting sees at le =
 
 -- the types of proofs, by their form
 
-pub arrow_in : (m : Proven) (p r : Box Ty Global) → (out-TypeProof m.proof).ty ≡ Arrow p r → type_in (tree_in m) ≡ arrow (typ_of p.value) (typ_of r.value)
+pub arrow_in : (m : Proven) (p r : Rc Ty Global) → (out-TypeProof m.proof).ty ≡ Arrow p r → type_in (tree_in m) ≡ arrow (typ_of p.value) (typ_of r.value)
 arrow_in m p r is = type_in-typing_tree_of m.proof ∙ ap typ_of is ∙ typ_of-Arrow p r
 
-pub no_arrow_in : (m : Proven) → ((p r : Box Ty Global) → (out-TypeProof m.proof).ty ≡ Arrow p r → ⊥) → (p r : Typ) → type_in (tree_in m) ≡ arrow p r → ⊥
+pub no_arrow_in : (m : Proven) → ((p r : Rc Ty Global) → (out-TypeProof m.proof).ty ≡ Arrow p r → ⊥) → (p r : Typ) → type_in (tree_in m) ≡ arrow p r → ⊥
 no_arrow_in m other p r is = no_arrow (out-TypeProof m.proof).ty p r other (sym (type_in-typing_tree_of m.proof) ∙ is)
 
-pub record_in : (m : Proven) (fs : RustFields) → (out-TypeProof m.proof).ty ≡ Record fs → type_in (tree_in m) ≡ record_of (fields_of (out-Fields fs).items.items)
+pub record_in : (m : Proven) (fs : RustFields) → (out-TypeProof m.proof).ty ≡ Record fs → type_in (tree_in m) ≡ record_of (fields_of (out-Fields fs).items.value.items)
 record_in m fs is = type_in-typing_tree_of m.proof ∙ ap typ_of is ∙ typ_of-Record fs
 
 pub no_record_in : (m : Proven) → ((fs : RustFields) → (out-TypeProof m.proof).ty ≡ Record fs → ⊥) → (gs : Fields) → type_in (tree_in m) ≡ record_of gs → ⊥

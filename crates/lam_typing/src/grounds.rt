@@ -65,19 +65,19 @@ impl<'t> Grounds<'t> {
     }
 
     /// Returns the context entry of the binder of the variable at a subterm index.
-    pub(crate) fn entry_of(&self, alloc: Global, place: usize) -> Result<Option<Ty>, AllocError>
+    pub(crate) fn entry_of(&self, place: usize) -> Result<Option<Ty>, AllocError>
         ensures { IfOk result (λ entry. written_of entry ≡ (note_among (noted_in self.now) place).bound) }
     {
         let source = bound_at(&self.noted, place);
-        self.tree_of(alloc, source)
+        self.tree_of(source)
     }
 
     /// Returns the context entry that a source gives, as a tree of its own.
-    fn tree_of(&self, alloc: Global, source: Option<Source<'t>>) -> Result<Option<Ty>, AllocError>
+    fn tree_of(&self, source: Option<Source<'t>>) -> Result<Option<Ty>, AllocError>
         ensures { IfOk result (λ tree. written_of tree ≡ entry_told (found_in self.now) source.entry) }
     {
         match source {
-            Some(Source::Written(written)) => copy_of_written(alloc, written),
+            Some(Source::Written(written)) => copy_of_written(written),
             Some(Source::Term(place)) => self.typing.tree_at(place),
             None => Ok(None),
         }

@@ -1,6 +1,6 @@
 //! Commands over the ids of a type table: each written type is replaced by its id.
 
-ghost use Rattle.std.specs.Prelude.{◌≡◌, IfOk, OnOk};
+ghost use Rattle.std.specs.Prelude.{IfOk, OnOk};
 ghost use Rattle.lam_rules.specs.TermViews.{term_of, terms_of, written_of};
 ghost use Rattle.lam_rules.specs.Terms.{if_then_else, lambda, apply, ascribe, let_in, record_term, project};
 ghost use Rattle.lam_rules.specs.Typing.{IsWellFormedEntry};

@@ -135,7 +135,7 @@ fn prove_variable(
 ) -> Result<Option<Proven>, AllocError>
     ensures { (index : ℕ) → IfOk result (BuildsForm grounds.now (variable index) place (typ_of ty.now)) }
 {
-    let Some(entry) = grounds.entry_of(alloc, place)? else {
+    let Some(entry) = grounds.entry_of(place)? else {
         return Ok(None);
     };
     let premises = Vec::new(alloc);
@@ -189,7 +189,7 @@ fn prove_if(
     };
     let Proven { proof, first } = first;
     let premises = vec![in alloc; proof, second.proof, third.proof]?;
-    let conclusion = copy_of(alloc, ty)?;
+    let conclusion = copy_of(ty)?;
     finish(
         alloc,
         grounds,
@@ -265,7 +265,7 @@ fn finish_apply(
     let Some(operand) = widened(alloc, argument.proof, parameter, grounds.typing.dialect)? else {
         return Ok(None);
     };
-    let conclusion = copy_of(alloc, outcome)?;
+    let conclusion = copy_of(outcome)?;
     finish_over_two(
         alloc,
         grounds,
@@ -297,7 +297,7 @@ fn prove_ascribe(
     let Some(made) = prove_as(alloc, grounds, operand, place, wanted)? else {
         return Ok(None);
     };
-    let conclusion = copy_of(alloc, wanted)?;
+    let conclusion = copy_of(wanted)?;
     finish_over(alloc, grounds, TypeRule::Ascribe, conclusion, made, ty)
 }
 
@@ -321,7 +321,7 @@ fn prove_let(
     let Some(made) = prove_term(alloc, grounds, bound, second.first)? else {
         return Ok(None);
     };
-    let conclusion = copy_of(alloc, &second.proof.ty)?;
+    let conclusion = copy_of(&second.proof.ty)?;
     finish_over_two(
         alloc,
         grounds,
@@ -356,15 +356,8 @@ fn prove_record(
     } = made;
     proofs.reverse();
     types.reverse();
-    finish(
-        alloc,
-        grounds,
-        TypeRule::Rcd,
-        make_record(types),
-        proofs,
-        ty,
-        first,
-    )
+    let record = make_record(alloc, types)?;
+    finish(alloc, grounds, TypeRule::Rcd, record, proofs, ty, first)
 }
 
 /// Proves the terms of a record, from last to first.
@@ -407,7 +400,7 @@ fn put_field(
 {
     let Proven { proof, first } = own;
     let name = String::from_str(alloc, label)?;
-    let ty = copy_of(alloc, &proof.ty)?;
+    let ty = copy_of(&proof.ty)?;
     made.types.push((name, ty))?;
     made.proofs.push(proof)?;
     made.first = first;
@@ -437,7 +430,7 @@ fn prove_project(
     let Some(field) = field_type(label, &fields.items, 0) else {
         return Ok(None);
     };
-    let conclusion = copy_of(alloc, field)?;
+    let conclusion = copy_of(field)?;
     finish_over(alloc, grounds, TypeRule::Proj, conclusion, made, ty)
 }
 
@@ -458,7 +451,7 @@ fn prove_fix(
     let Some(made) = prove_as(alloc, grounds, operand, place, &wanted)? else {
         return Ok(None);
     };
-    let conclusion = copy_of(alloc, ty)?;
+    let conclusion = copy_of(ty)?;
     finish_over(alloc, grounds, TypeRule::Fix, conclusion, made, ty)
 }
 
@@ -489,8 +482,8 @@ fn prove_as(
 fn arrow_between(alloc: Global, parameter: &Ty, outcome: &Ty) -> Result<Ty, AllocError>
     ensures { IfOk result (λ made. typ_of made ≡ arrow (typ_of parameter.now) (typ_of outcome.now)) }
 {
-    let parameter = copy_of(alloc, parameter)?;
-    let outcome = copy_of(alloc, outcome)?;
+    let parameter = copy_of(parameter)?;
+    let outcome = copy_of(outcome)?;
     make_arrow(alloc, parameter, outcome)
 }
 
@@ -592,7 +585,7 @@ fn subsumed(
 ) -> Result<TypeProof, AllocError>
     ensures { IfOk result (λ made. (d : Dialect) → ProvesBelow (sub_tree_of sub) (type_in (typing_tree_of proof)) (typ_of upper.now) d → IsWidened (typing_tree_of proof) (typ_of upper.now) (Some (typing_tree_of made)) d) }
 {
-    let ty = copy_of(alloc, upper)?;
+    let ty = copy_of(upper)?;
     let sub = Box::new(alloc, sub)?;
     let typing = vec![in alloc; proof]?;
     Ok(TypeProof {

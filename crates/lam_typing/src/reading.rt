@@ -12,7 +12,7 @@ ghost use Rattle.lam_scope.specs.Bindings.{declared_type};
 use crate::noting::{Note, Source};
 use lam_rules::{Ty, TyNo, copy_of};
 use lam_scope::Statement;
-use std::alloc::{AllocError, Global};
+use std::alloc::AllocError;
 
 /// Returns the type id at an index, or `None` if it has none or is past the end.
 pub(crate) fn found_at(found: &[Option<TyNo>], number: usize) -> Option<TyNo>
@@ -67,12 +67,12 @@ pub(crate) fn declared_at<'t>(statements: &'t [Statement], number: usize) -> Opt
     }
 }
 
-/// Returns a deep copy of a written type.
-pub(crate) fn copy_of_written(alloc: Global, written: &Option<Ty>) -> Result<Option<Ty>, AllocError>
+/// Returns a copy of a written type.
+pub(crate) fn copy_of_written(written: &Option<Ty>) -> Result<Option<Ty>, AllocError>
     ensures { IfOk result (λ copy. written_of copy ≡ written_of written.now) }
 {
     match written {
-        Some(ty) => Ok(Some(copy_of(alloc, ty)?)),
+        Some(ty) => Ok(Some(copy_of(ty)?)),
         None => Ok(None),
     }
 }

@@ -31,7 +31,7 @@ type_at-returns-clause-read m c = λ t rest readable small none is.
 pub record_at-returns-in-Some-clause-read : goal.record_at-returns-in-Some-clause-read
 record_at-returns-in-Some-clause-read m c = λ fs rest readable small is.
     let ends = none_left _ c.loop-left.rest.now c.in-Some.left.now c.args.levels fs rest (c.loop-left.invariant.2 fs rest readable small is) c.in-Some.ensures.some in
-    (c.make_record.ensures ∙ ap record_of ends.0, ends.1)
+    (c.in_ok-made.ensures ∙ ap record_of ends.0, ends.1)
 
 pub record_at-returns-in_default-around_colon-clause-read : goal.record_at-returns-in_default-around_colon-clause-read
 record_at-returns-in_default-around_colon-clause-read m c = λ fs rest readable small is.

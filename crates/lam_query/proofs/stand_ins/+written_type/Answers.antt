@@ -40,9 +40,9 @@ written_type-returns t c =
           ∙ type_node_of-Arrow w.in_ok-written_arrow-in-Arrow.field-0
           ∙ (λ i. arrow (first i) (second i)))
       | written_type-in-Record+in_ok-written_fields-in-Record w ↦
-          type_made c.standing_nowhere.result c.match-ty.node c.args.ty.now _ (type.record_of (fields_of (out-Fields w.in-Record.fields).items.items))
+          type_made c.standing_nowhere.result c.match-ty.node c.args.ty.now _ (type.record_of (fields_of (out-Fields w.in-Record.fields).items.value.items))
           c.standing_nowhere.ensures w.in-Record.is (typ_of-Record w.in-Record.fields)
           (ap type_node_of w.node-is
           ∙ type_node_of-Record w.in_ok-written_fields-in-Record.field-0
-          ∙ ap record_type (w.in_ok-written_fields-in-Record.ensures ∙ ap (λ fs. written_fields (fields_of fs)) w.deref-in-Record.ensures.value))
+          ∙ ap record_type (w.in_ok-written_fields-in-Record.ensures ∙ ap (λ fs. written_fields (fields_of fs)) (w.deref-in-Record-2.ensures.value ∙ ap (λ v. v.items) w.deref-in-Record.ensures)))
     ]

@@ -15,10 +15,10 @@ returns-clause-of_term c =
     let are = rw c.new-listed.ensures.items at c.in_ok-list_typing.ensures.steps in
     λ commands of.
     are
-    ∙ ap (λ t. steps_of 0 (row_proof t c.args.place.0 (typing_tree_of c.args.proof))) of.same_table
-    ∙ ap (steps_of 0) (same_proof commands c.args.place.0 (typing_tree_of c.args.proof))
+    ∙ ap (λ t. steps_of 0 (row_proof t c.args.place.0 (typing_tree_of c.args.proof.now))) of.same_table
+    ∙ ap (steps_of 0) (same_proof commands c.args.place.0 (typing_tree_of c.args.proof.now))
 
 pub returns-clause-whole_characters : goal.returns-clause-whole_characters
 returns-clause-whole_characters c =
     let are = rw c.new-listed.ensures.items at c.in_ok-list_typing.ensures.steps in
-    λ text stands. steps_stand text (table_of c.args.scopes.now) c.args.place.0 (typing_tree_of c.args.proof) _ stands are
+    λ text stands. steps_stand text (table_of c.args.scopes.now) c.args.place.0 (typing_tree_of c.args.proof.now) _ stands are

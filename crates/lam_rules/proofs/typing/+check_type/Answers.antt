@@ -147,7 +147,7 @@ pub by_proj-returns : goal.by_proj-returns
 by_proj-returns t c =
     let here = here_proj _ c.in-Proj.parts _ c.in-Proj.is c.deref.ensures _ _ c.in-len1.len_at_least c.in-len1.len_below c.premise-item.is _ _ _ in
     let shape = ap typ_of c.in-Record.is ∙ typ_of-Record c.in-Record.fields in
-    let fields = fields_here _ _ _ _ _ _ shape c.deref-2.ensures (ap fields_of c.deref-3.ensures.value) in (
+    let fields = fields_here _ _ _ _ _ _ shape c.deref-2.ensures (ap fields_of (c.deref-4.ensures.value ∙ ap (λ v. v.items) c.deref-3.ensures)) in (
       λ r. here.1 (c.if-not-check_in.ensures.0 refl, fields.1 (c.has_field.ensures.0 r)),
       λ b. c.has_field.ensures.1 (fields.0 (here.0 b).1),
     )

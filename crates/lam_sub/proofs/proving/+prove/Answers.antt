@@ -81,17 +81,17 @@ prove-prove_sides-requires t c =
 
 pub prove-prove_record-requires : goal.prove-prove_record-requires
 prove-prove_record-requires t c =
-    let lower = record_seen c.args.lower.now _ c.deref-in-Record.result.now c.in-Record-lower.is c.deref-in-Record.ensures.value in
-    let upper = record_seen c.args.upper.now _ c.deref-in-Record-2.result.now c.in-Record.is c.deref-in-Record-2.ensures.value in
+    let lower = record_seen c.args.lower.now _ _ c.deref-in-Record-2.result.now c.in-Record-lower.is c.deref-in-Record.ensures c.deref-in-Record-2.ensures.value in
+    let upper = record_seen c.args.upper.now _ _ c.deref-in-Record-4.result.now c.in-Record.is c.deref-in-Record-3.ensures c.deref-in-Record-4.ensures.value in
     let wf = below_wf (typ_of c.args.lower.now) (typ_of c.args.upper.now) c.args.dialect c.requires in (
-      omega (arith, c.decreases, nodes_of_record c.args.lower.now c.deref-in-Record.result.now lower, nodes_of_record c.args.upper.now c.deref-in-Record-2.result.now upper),
+      omega (arith, c.decreases, nodes_of_record c.args.lower.now c.deref-in-Record-2.result.now lower, nodes_of_record c.args.upper.now c.deref-in-Record-4.result.now upper),
       (
         subst (λ s. IsWellFormed s) (sym lower) wf.0,
         (
           subst (λ s. IsWellFormed s) (sym upper) wf.1,
           (
-            record_inside (fields_of c.deref-in-Record.result.now) (fields_of c.deref-in-Record-2.result.now) c.args.dialect
-                (subst (λ s. IsBelow s (record_of (fields_of c.deref-in-Record-2.result.now)) c.args.dialect) (sym lower)
+            record_inside (fields_of c.deref-in-Record-2.result.now) (fields_of c.deref-in-Record-4.result.now) c.args.dialect
+                (subst (λ s. IsBelow s (record_of (fields_of c.deref-in-Record-4.result.now)) c.args.dialect) (sym lower)
                 (subst (λ s. IsBelow (typ_of c.args.lower.now) s c.args.dialect) (sym upper) c.requires)),
             λ alike. let e : c.same.result ≡ true = c.same.ensures.1 (sym lower ∙ alike ∙ upper) in cc,
           ),
@@ -126,11 +126,11 @@ prove_sides-returns-clause-by_rule t c =
 
 pub prove-returns-in-Record-lower : goal.prove-returns-in-Record-lower
 prove-returns-in-Record-lower t c =
-    let lower = record_seen c.args.lower.now _ c.deref-in-Record.result.now c.in-Record-lower.is c.deref-in-Record.ensures.value in
-    let upper = record_seen c.args.upper.now _ c.deref-in-Record-2.result.now c.in-Record.is c.deref-in-Record-2.ensures.value in
+    let lower = record_seen c.args.lower.now _ _ c.deref-in-Record-2.result.now c.in-Record-lower.is c.deref-in-Record.ensures c.deref-in-Record-2.ensures.value in
+    let upper = record_seen c.args.upper.now _ _ c.deref-in-Record-4.result.now c.in-Record.is c.deref-in-Record-3.ensures c.deref-in-Record-4.ensures.value in
     IfOk-weaker c.prove_record.result _ (λ made. ProvesBelow (sub_tree_of made) (typ_of c.args.lower.now) (typ_of c.args.upper.now) c.args.dialect)
     (λ made proves. subst (λ s. ProvesBelow (sub_tree_of made) s (typ_of c.args.upper.now) c.args.dialect) lower
-    (subst (λ s. ProvesBelow (sub_tree_of made) (record_of (fields_of c.deref-in-Record.result.now)) s c.args.dialect) upper proves))
+    (subst (λ s. ProvesBelow (sub_tree_of made) (record_of (fields_of c.deref-in-Record-2.result.now)) s c.args.dialect) upper proves))
     c.prove_record.ensures
 
 pub prove-returns-in_default : goal.prove-returns-in_default

@@ -8,5 +8,5 @@ pub returns : goal.returns
 returns c = λ d of all.
     stepped c.args.rule (record_of (fields_of c.args.lower.items)) (record_of (fields_of c.args.upper.now)) c.args.premises.items _ d
     c.requires.lower c.requires.upper of c.requires.by_rule all
-    (step_made c.args.rule c.make_record-lower.result c.make_record-upper.result c.args.premises _ _
-    c.make_record-lower.ensures (c.make_record-upper.ensures ∙ ap record_of c.in_ok-copy_of_fields.ensures))
+    (step_made c.args.rule c.in_ok-lower.lower c.in_ok-upper.upper c.args.premises _ _
+    c.in_ok-lower.ensures (c.in_ok-upper.ensures ∙ ap record_of c.in_ok-fields.ensures))

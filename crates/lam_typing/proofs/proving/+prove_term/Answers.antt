@@ -218,13 +218,13 @@ prove_project-returns-in_default-ty t c =
 pub prove_project-returns-in_default-field_type : goal.prove_project-returns-in_default-field_type
 prove_project-returns-in_default-field_type t c =
     let made = rw c.in-Some.is at c.in_ok-made.ensures in
-    let type = record_in c.in-Some.made c.in-Record.fields c.in-Record.is ∙ ap (λ fs. record_of (fields_of fs)) (sym c.deref.ensures.value) in
+    let type = record_in c.in-Some.made c.in-Record.fields c.in-Record.is ∙ ap (λ fs. record_of (fields_of fs)) (sym (c.deref-2.ensures.value ∙ ap (λ v. v.items) c.deref.ensures)) in
     record { first = tt; proves = project_no_field _ _ _ _ _ _ _ made.proves type c.in_default-field_type.ensures.absent }
 
 pub prove_project-returns : goal.prove_project-returns
 prove_project-returns t c =
     let built = rw c.in-Some.is at c.in_ok-made.ensures in
-    let type = record_in c.in-Some.made c.in-Record.fields c.in-Record.is ∙ ap (λ fs. record_of (fields_of fs)) (sym c.deref.ensures.value) in
+    let type = record_in c.in-Some.made c.in-Record.fields c.in-Record.is ∙ ap (λ fs. record_of (fields_of fs)) (sym (c.deref-2.ensures.value ∙ ap (λ v. v.items) c.deref.ensures)) in
     IfOk-weaker c.finish_over.result _ _ (λ made done. record {
       first = first_before made c.in-Some.made.first (inside (term_of c.args.operand.now) + 1) c.args.place done.first (omega (arith, built.first));
       proves = project_form _ _ _ _ _ _ _ _ _ (option_map tree_in made) built.proves type c.in-Some-field_type.ensures.found c.in_ok-conclusion.ensures done.wide;
@@ -238,7 +238,7 @@ prove_record-returns-in_default t c =
 pub prove_record-returns : goal.prove_record-returns
 prove_record-returns t c =
     let built = rw c.in-Some.is at c.in_ok-made.ensures in
-    let type = c.make_record.ensures ∙ ap (λ fs. record_of (fields_of fs)) c.reverse-2.ensures.items in
+    let type = c.in_ok-record.ensures ∙ ap (λ fs. record_of (fields_of fs)) c.reverse-2.ensures.items in
     let d = c.args.grounds.now.typing.now.dialect in
     IfOk-weaker c.finish.result _ _ (λ made done. record {
       first = first_before made c.in-Some.made.first (inside_fields (terms_of c.args.fields.now)) c.args.place done.first built.first;

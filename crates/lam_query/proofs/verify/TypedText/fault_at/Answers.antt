@@ -86,7 +86,7 @@ returns-in-Some-first_other c = λ commands is.
     let listed = entries_are_listed claim.entries.now x c.requires.claim.types in
     let proof = rw (listed, here) at c.check_type.ensures.0 c.if-not-check_type.false in
     let given = ap (map step_of) c.deref-2.ensures.value in
-    let made = ap (map step_of) c.deref-3.ensures.value ∙ c.in_ok-steps.ensures commands is.are_scopes in
+    let made = ap (map step_of) c.deref-3.ensures.value ∙ c.in_ok-steps.ensures.of_term commands is.are_scopes in
     let differ = rw (given, made) at c.in-Some-first_other.ensures in
     (λ h. no_difference x.steps _ c.in-Some-first_other.number differ (steps_are term x d tree c.requires.claim.tree h), (has, tree, c.requires.claim.tree, proof, differ))
 
@@ -107,5 +107,5 @@ returns c = λ commands is.
     let listed = entries_are_listed claim.entries.now x c.requires.claim.types in
     let proof = rw (listed, here) at c.check_type.ensures.0 c.if-not-check_type.false in
     let given = ap (map step_of) c.deref-2.ensures.value in
-    let made = ap (map step_of) c.deref-3.ensures.value ∙ c.in_ok-steps.ensures commands is.are_scopes in
+    let made = ap (map step_of) c.deref-3.ensures.value ∙ c.in_ok-steps.ensures.of_term commands is.are_scopes in
     is_proof term x d tree (written_there commands c.args.self.now.scopes n is.are_scopes c.requires.written) has proof (sym given ∙ c.in-None.ensures ∙ made)

@@ -10,7 +10,7 @@ use Rattle.lam_rules.proofs.table.TyTable.+add.Goals as goal
 pub add-intern-requires-in-Record-clause-labels : goal.add-intern-requires-in-Record-clause-labels
 add-intern-requires-in-Record-clause-labels t c =
     distinct_fields _ _ _ c.in_ok-items-in-Record.ensures.fields
-    (subst AreWellFormed (ap fields_of (sym c.deref-in-Record.ensures.value)) (subst IsWellFormed (ap typ_of c.in-Record.is ∙ typ_of-Record c.in-Record.fields) c.requires))
+    (subst AreWellFormed (ap fields_of (sym (c.deref-in-Record-2.ensures.value ∙ ap (λ v. v.items) c.deref-in-Record.ensures))) (subst IsWellFormed (ap typ_of c.in-Record.is ∙ typ_of-Record c.in-Record.fields) c.requires))
 
 pub add_fields-add-requires : goal.add_fields-add-requires
 add_fields-add-requires t c =
