@@ -2,9 +2,10 @@
 """build.py: proves the crates that the programs stand on, side by side, and builds them; says how far it is and how long is left.
 
 As many crates are proved at a time as there are processors, each once those below it are, those with the longest chain above
-them first. Each is proved by one process, since each process reads the libraries anew; where fewer crates are ready than there are
-processors, the processors that are left are shared out among them, up to four processes a crate. `rt` locks what a crate stands
-on, so those that stand on one crate wait for each other. What was built before and has not changed is not built again.
+them first. Where fewer crates are ready than there are processors, the processors that are left are shared out among them, but each
+process reads the libraries anew: so a crate gets no more processes than four, and one for each four minutes that it takes. `rt`
+locks what a crate stands on, so those that stand on one crate wait for each other. What was built before and has not changed is not
+built again.
 """
 
 import concurrent.futures
@@ -88,8 +89,9 @@ def main():
     with concurrent.futures.ThreadPoolExecutor(cores) as pool:
         while left or running:
             ready = [it for it in left if done.issuperset(below[it])]
-            jobs = max(1, min(4, cores // max(1, len(ready) + len(running))))
+            share = cores // max(1, len(ready) + len(running))
             for name in ready[: cores - len(running)]:
+                jobs = max(1, min(4, share, MINUTES[name] // 4))
                 left.remove(name)
                 running[pool.submit(prove, name, jobs)] = name
             for it in concurrent.futures.wait(running, return_when=concurrent.futures.FIRST_COMPLETED).done:

@@ -283,6 +283,22 @@ def sent(change=None, names=None, steps=None):
     return line({"derivation": {"context": NAMES if names is None else names, "steps": told}, "file": "a"})
 
 
+# Derivations that cannot be read, each with what is told of it. What is wrong is never first in its list.
+UNREAD = [
+    ("an entry that is no object", sent(names=[NAMES[0], 7]), "entry 1 of the context is no object of `name` and `type`"),
+    ("an entry of which the type is cut", sent(names=[NAMES[0], {"name": "next", "type": "{x:Nat"}]), "entry 1 of the context has no type of at most 4,096 levels"),
+    ("a step with one member more", sent((3, {"more": 0})), "step 3 has no object of `from`, `range`, `rule` and `type`, or of `from`, `lower`, `rule` and `upper`"),
+    ("no such rule of typing", sent((4, {"rule": "S-Refl"})), "step 4 names a rule that there is not"),
+    ("no such rule of subtyping", sent((2, {"rule": "T-Sub"})), "step 2 names a rule that there is not"),
+    ("a type that is cut", sent((3, {"type": "{x:Nat"})), "step 3 has no type of at most 4,096 levels"),
+    ("a lower type that is no text", sent((2, {"lower": 7})), "step 2 has no type of at most 4,096 levels"),
+    ("an upper type with a blank before it", sent((2, {"upper": " {x:Nat}"})), "step 2 has no type of at most 4,096 levels"),
+    ("a range behind the text", sent((4, {"range": place(9, 0, 4)})), "step 4 has a range that is not in the text"),
+    ("a premise that is no number", sent((3, {"from": [1, "2"]})), "step 3 follows `from` no list of numbers of steps"),
+    ("premises that are no list", sent((2, {"from": 0})), "step 2 follows `from` no list of numbers of steps"),
+]
+
+
 @dataclass
 class Case:
     """A run of the checker."""
@@ -395,6 +411,7 @@ CASES = [
     Case("a derivation of a text with a type that is too large", ["--verify", "d"], {"a": "0;\n" + LARGE, "d": line({"derivation": STEPS, "file": "a"})}, "d: the text has a type of more than 4,096 nodes\n", 1),
     Case("no such rule", ["--verify", "d"], {"a": CALL, "d": sent((0, {"rule": "T-Foo"}))}, "d: step 0 names a rule that there is not\n", 1),
     Case("no type", ["--verify", "d"], {"a": CALL, "d": sent((0, {"type": "{x:Nat"}))}, "d: step 0 has no type of at most 4,096 levels\n", 1),
+    *(Case(name, ["--verify", "d"], {"a": CALL, "d": told}, f"d: {why}\n", 1) for name, told, why in UNREAD),
     Case("no derivation", ["--verify", "d"], {"a": CALL, "d": line({"derivation": None, "file": "a"})}, "d: it is no derivation: an object of `context` and `steps`, both lists\n", 1),
     Case("JSON is cut", ["--verify", "d"], {"a": CALL, "d": sent()[:14]}, "d: it is no JSON: EOF while parsing at line 1 column 14\n", 1),
     Case("derivations not in UTF-8", ["--verify", "d"], {"d": b"\xff"}, "", 4, refused("d", "it is not UTF-8 from byte 0 on")),

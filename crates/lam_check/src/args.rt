@@ -26,8 +26,10 @@ const LATEX: &str = "Draws the tree in LaTeX, with the package bussproofs";
 
 const HTML: &str = "Draws the tree in HTML, with parts that can be folded";
 
-const STATUSES: &str = "Exit status: 0 if no file has an error, 1 if one has, 2 on a usage error, \
-    4 if a file cannot be read or the output cannot be written, 5 if memory runs out.";
+const STATUSES: &str =
+    "Exit status: 0 if no file has an error, 1 if one has (with --why: if there is no \
+    derivation; with --verify: if one is not accepted), 2 on a usage error, 4 if a file cannot be read or \
+    the output cannot be written, 5 if memory runs out.";
 
 /// The parsed arguments.
 #[derive(Clone, Copy, Debug)]

@@ -1,5 +1,5 @@
 -- How what steps say is put together, and what of it follows.
-use Rattle.std.proofs.Common.{◌≡◌, ◌≢◌, ℕ, zero, suc, ◌+◌, ◌-◌, ◌<◌, ◌≤◌, List, [], ◌∷◌, ◌++◌, length, get_or, drop, replicate, Option, Some, None, slice_get, String, refl, sym, ap, subst, ◌∙◌, arith, append_assoc, append-nil, length-append}
+use Rattle.std.proofs.Common.{◌≡◌, ◌≢◌, ◌↔◌, ℕ, zero, suc, ◌+◌, ◌-◌, ◌<◌, ◌≤◌, List, [], ◌∷◌, ◌++◌, length, get_or, drop, replicate, Option, Some, None, slice_get, String, refl, sym, ap, subst, ◌∙◌, arith, append_assoc, append-nil, length-append}
 use Rattle.std.specs.Option.{option_map}
 use Rattle.std.proofs.lemmas.List.{length-replicate}
 use Rattle.lam_rules.specs.Types.{Typ, record_of, no_fields, field}
@@ -7,6 +7,7 @@ use Rattle.lam_rules.specs.Terms.{Term, true_term, false_term, if_then_else, num
 use Rattle.lam_rules.specs.Subtyping.{SubTree, sub_step, SubTrees, no_subs, sub_first, IsSubProof, AreSubProofs}
 use Rattle.lam_rules.specs.Typing.{Context, TypingTree, typing_step, TypingTrees, no_typings, typing_first, type_in, IsTyping, ByTypeRule}
 use Rattle.lam_rules.specs.TermViews.{written_of, term_of, terms_of}
+use Rattle.lam_rules.specs.SubSteps.{IsSubStep}
 use Rattle.lam_rules.specs.SubViews.{sub_tree_of, sub_trees_of}
 use Rattle.lam_rules.specs.TypingViews.{context_of, typing_tree_of, typings_of}
 use Rattle.lam_rules.specs.declared.subtyping.SubProof.{SubProof, out-SubProof}
@@ -73,6 +74,10 @@ pub all_append : (d : Dialect) (xs ys : List Judgement) → AllFollow d xs → A
 all_append d [] ys h k = k
 all_append d (x ∷ xs) ys h k = (h.0, all_append d xs ys h.1 k)
 
+all_split : (d : Dialect) (xs ys : List Judgement) → AllFollow d (xs ++ ys) → AllFollow d xs × AllFollow d ys
+all_split d [] ys h = (tt, h)
+all_split d (x ∷ xs) ys h = let rest = all_split d xs ys h.1 in ((h.0, rest.0), rest.1)
+
 none_says : (d : Dialect) (n : ℕ) → AllFollow d (replicate n about_no_part)
 none_says d zero = tt
 none_says d (suc n) = (tt, none_says d n)
@@ -84,6 +89,19 @@ mutual
   sub_follows_each : (d : Dialect) (qs : SubTrees) → AreSubProofs qs d → AllFollow d (sub_judgements_each qs)
   sub_follows_each d no_subs h = tt
   sub_follows_each d (sub_first p ps) h = all_append d (sub_judgements p) (sub_judgements_each ps) (sub_follows d p h.0) (sub_follows_each d ps h.1)
+
+-- steps that all follow make proofs
+subs_proved : (d : Dialect) (qs : SubTrees) → AllFollow d (sub_judgements_each qs) → AreSubProofs qs d
+subs_proved d no_subs h = tt
+subs_proved d (sub_first (sub_step r s t ps) qs) h =
+    let parts = all_split d (sub_judgements (sub_step r s t ps)) (sub_judgements_each qs) h in
+    ((all_split d (sub_judgements_each ps) (below (sub_step r s t ps) ∷ []) parts.0).1.0, subs_proved d qs parts.1)
+
+-- the last step, if those before it follow
+pub sub_last : (d : Dialect) (p : SubProof) → AllFollow d (sub_judgements_each (sub_trees_of (out-SubProof p).premises.items))
+    → IsSubStep (sub_tree_of p) d ↔ IsSubProof (sub_tree_of p) d
+sub_last d p follow =
+    rw (sub_tree_of-node p) ((λ h. (h.0, h.1, h.2, h.3, subs_proved d (sub_trees_of (out-SubProof p).premises.items) follow)), (λ h. (h.0, h.1, h.2, h.3)))
 
 mutual
   pub follows : (d : Dialect) (g : Context) (e : Term) (p : TypingTree) → IsTyping g e p d → AllFollow d (judgements g e p)

@@ -7,7 +7,9 @@ ghost use Rattle.lam_rules.specs.Typing.{Context, IsTyping};
 ghost use Rattle.lam_rules.specs.TypingViews.{context_of, typing_tree_of, typings_of};
 ghost use Rattle.lam_query.specs.Judgements.{AllFollow, IsFirstFailing, about, fields_in, first_type, judgements, judgements_each, parts_in, side_judgements, side_steps_in, steps_in, steps_in_each, sub_judgements, sub_judgements_each, sub_steps_in, sub_steps_in_each, subjects};
 
-use lam_rules::{Core, Dialect, SubProof, Ty, TypeProof, TypeRule, check_sub, check_type, copy_of};
+use lam_rules::{
+    Core, Dialect, SubProof, Ty, TypeProof, TypeRule, check_sub_step, check_type, copy_of,
+};
 use std::alloc::AllocError;
 
 /// Returns the index of the first step that does not follow by its rule, in a proof that is not valid for the term. The steps are
@@ -213,13 +215,13 @@ fn wrong_sub_step(proof: &SubProof, start: usize, dialect: Dialect) -> Option<us
     ensures { let all = sub_judgements (sub_tree_of proof.now) in
         MatchOption result (AllFollow dialect all) (λ number. IsFirstFailing dialect start all number) }
 {
-    if check_sub(proof, dialect) {
+    if let Some(number) = wrong_sub_premise(&proof.premises, start, dialect) {
+        return Some(number);
+    }
+    if check_sub_step(proof, dialect) {
         return None;
     }
-    match wrong_sub_premise(&proof.premises, start, dialect) {
-        Some(number) => Some(number),
-        None => Some(start + sub_steps_in_each(&proof.premises)),
-    }
+    Some(start + sub_steps_in_each(&proof.premises))
 }
 
 #[cycle(wrong_sub_step)]

@@ -4,6 +4,7 @@ pub mod Texts
 pub mod Rules
 pub mod Subtyping
 pub mod SubViews
+pub mod SubSteps
 pub mod Terms
 pub mod TermViews
 pub mod Typing

@@ -21,7 +21,7 @@ mod typing;
 pub use laws::{one_text, types_below_each_other_have_one_size};
 pub use numbers::{Shape, TyNo, labels_differ, number_under};
 pub use rules::{Dialect, SubRule, TypeRule};
-pub use subtyping::{SubProof, check_sub};
+pub use subtyping::{SubProof, check_sub, check_sub_step};
 pub use table::TyTable;
 pub use terms::{Core, make_letrec};
 pub use texts::{one_sorted_form, plain_text_of, text_of};

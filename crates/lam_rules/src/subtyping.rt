@@ -4,6 +4,7 @@ ghost use Rattle.std.specs.Prelude.{◌↔◌, IsTrue};
 ghost use Rattle.lam_rules.specs.Types.{IsWellFormed, AreWellFormed, Includes};
 ghost use Rattle.lam_rules.specs.TypeViews.{typ_of, fields_of};
 ghost use Rattle.lam_rules.specs.Subtyping.{BySubRule, BeginsWith, GoesFieldByField, IsPermutation, IsRuleOf, IsSubProof, AreSubProofs};
+ghost use Rattle.lam_rules.specs.SubSteps.{IsSubStep};
 ghost use Rattle.lam_rules.specs.SubViews.{claims_of, sub_tree_of, sub_trees_of};
 
 use crate::rules::{Dialect, SubRule};
@@ -24,6 +25,17 @@ pub struct SubProof {
 pub fn check_sub(proof: &SubProof, dialect: Dialect) -> bool
     ensures { IsTrue result ↔ IsSubProof (sub_tree_of proof.now) dialect }
 {
+    if !check_sub_step(proof, dialect) {
+        return false;
+    }
+    check_subs(&proof.premises, dialect)
+}
+
+/// Whether the last step of a tree follows by its rule from the conclusions of its premises, whether these are proved or
+/// not.
+pub fn check_sub_step(proof: &SubProof, dialect: Dialect) -> bool
+    ensures { IsTrue result ↔ IsSubStep (sub_tree_of proof.now) dialect }
+{
     if !wf(&proof.lower) {
         return false;
     }
@@ -33,10 +45,7 @@ pub fn check_sub(proof: &SubProof, dialect: Dialect) -> bool
     if !is_rule_of(proof.rule, dialect) {
         return false;
     }
-    if !follows(proof.rule, &proof.premises, &proof.lower, &proof.upper) {
-        return false;
-    }
-    check_subs(&proof.premises, dialect)
+    follows(proof.rule, &proof.premises, &proof.lower, &proof.upper)
 }
 
 #[cycle(check_sub)]

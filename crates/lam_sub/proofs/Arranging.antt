@@ -41,7 +41,7 @@ arranged fs gs = joined (picked fs gs) (other_fields fs gs)
 pub below_labels : (fs gs : Fields) (d : Dialect) → AreBelow fs gs d → HasLabelsOf fs gs
 below_labels fs gs d below l t has = let found = field_below fs gs d below l t has in (found.0, found.1)
 
-picked_are : (fs gs : Fields) → HasLabelsOf fs gs → (l : Label) (s : Typ) → Has l s (picked fs gs) → Has l s fs × ((t : Typ) × Has l t gs)
+pub picked_are : (fs gs : Fields) → HasLabelsOf fs gs → (l : Label) (s : Typ) → Has l s (picked fs gs) → Has l s fs × ((t : Typ) × Has l t gs)
 picked_are fs no_fields labels l s has = absurd has
 picked_are fs (field k u gs) labels l s (inl e) =
     let found = labels k u (inl (refl, refl)) in

@@ -1,3 +1,4 @@
 pub mod Arranging
 pub mod FieldsBelow
 pub mod Steps
+pub mod Unchanged

@@ -7,6 +7,7 @@ mod fields;
 mod kept_bounds;
 mod numbers;
 mod proving;
+mod unchanged;
 mod verdicts;
 
 pub use deciding::is_sub;

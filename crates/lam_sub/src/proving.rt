@@ -8,15 +8,15 @@ ghost use Rattle.lam_rules.specs.Subtyping.{BySubRule, IsRuleOf, GoesFieldByFiel
 ghost use Rattle.lam_rules.specs.SubViews.{sub_tree_of, sub_trees_of, claims_of};
 ghost use Rattle.lam_rules.specs.declared.rules.Dialect.{Dialect};
 ghost use Rattle.lam_rules.specs.declared.rules.SubRule.{SubRule};
+ghost use Rattle.lam_sub.specs.BoundOrder.{HasNoParts};
 ghost use Rattle.lam_sub.specs.inner.Arranging.{HasLabelsOf, picked};
 ghost use Rattle.lam_sub.specs.inner.FieldsBelow.{AreBelow};
 ghost use Rattle.lam_sub.specs.inner.Steps.{LeadsTo};
 
 use crate::deciding::is_sub;
 use crate::fields::{append_others, field_type};
-use lam_rules::{
-    Dialect, SubProof, SubRule, Ty, copy_of, copy_of_fields, make_record, same, same_fields,
-};
+use crate::unchanged::{are_by_refl, have_same_labels};
+use lam_rules::{Dialect, SubProof, SubRule, Ty, copy_of, copy_of_fields, make_record, same};
 use std::alloc::{AllocError, Global};
 
 /// Returns a proof that the first type is a subtype of the second, or `None` if it is not. Equal types take a single
@@ -39,17 +39,14 @@ pub fn prove_sub(
     Ok(Some(proof))
 }
 
-/// The proof of a subtyping that is known to hold.
+/// The proof of a subtyping that is known to hold. Whether two arrows or two records are equal is told by the proofs of
+/// their parts, so that no level compares what is below it again.
 #[cycle(prove)]
 fn prove(alloc: Global, lower: &Ty, upper: &Ty, dialect: Dialect) -> Result<SubProof, AllocError>
     requires { IsBelow (typ_of lower.now) (typ_of upper.now) dialect }
     ensures { IfOk result (λ proof. ProvesBelow (sub_tree_of proof) (typ_of lower.now) (typ_of upper.now) dialect) }
 {
-    if same(lower, upper) {
-        return conclude(SubRule::Refl, Vec::new(alloc), lower, upper);
-    }
     match upper {
-        Ty::Top => conclude(SubRule::Top, Vec::new(alloc), lower, upper),
         Ty::Arrow(upper_parameter, upper_outcome) => {
             let Ty::Arrow(lower_parameter, lower_outcome) = lower else {
                 unreachable!();
@@ -62,14 +59,37 @@ fn prove(alloc: Global, lower: &Ty, upper: &Ty, dialect: Dialect) -> Result<SubP
                 upper_outcome,
                 dialect,
             )?;
+            if are_by_refl(&premises) {
+                return conclude(SubRule::Refl, Vec::new(alloc), lower, upper);
+            }
             conclude(SubRule::Arrow, premises, lower, upper)
         }
         Ty::Record(upper_fields) => {
             let Ty::Record(lower_fields) = lower else {
                 unreachable!();
             };
-            prove_record(alloc, &lower_fields.items, &upper_fields.items, dialect)
+            let steps = prove_record(alloc, &lower_fields.items, &upper_fields.items, dialect)?;
+            match steps {
+                Some(proof) => Ok(proof),
+                None => conclude(SubRule::Refl, Vec::new(alloc), lower, upper),
+            }
         }
+        _ => prove_without_parts(alloc, lower, upper),
+    }
+}
+
+/// The proof that a type is below one without parts.
+#[inline(never)]
+fn prove_without_parts(alloc: Global, lower: &Ty, upper: &Ty) -> Result<SubProof, AllocError>
+    requires { HasNoParts (typ_of upper.now) }
+    ensures { (d : Dialect) → IsBelow (typ_of lower.now) (typ_of upper.now) d
+        → IfOk result (λ proof. ProvesBelow (sub_tree_of proof) (typ_of lower.now) (typ_of upper.now) d) }
+{
+    if same(lower, upper) {
+        return conclude(SubRule::Refl, Vec::new(alloc), lower, upper);
+    }
+    match upper {
+        Ty::Top => conclude(SubRule::Top, Vec::new(alloc), lower, upper),
         _ => conclude(SubRule::BoolNat, Vec::new(alloc), lower, upper),
     }
 }
@@ -96,44 +116,23 @@ fn prove_sides(
     Ok(premises)
 }
 
-/// The proof for two record types: required fields are moved to the front, others are dropped, and types are widened.
+/// The steps between two record types, `None` if they are equal: required fields are moved to the front, others are dropped,
+/// and types are widened.
 #[cycle(prove)]
+#[inline(never)]
 fn prove_record(
     alloc: Global,
     lower: &[(String, Ty)],
     upper: &[(String, Ty)],
     dialect: Dialect,
-) -> Result<SubProof, AllocError>
+) -> Result<Option<SubProof>, AllocError>
     requires lower { AreWellFormed (fields_of lower.now) }
     requires upper { AreWellFormed (fields_of upper.now) }
     requires below { AreBelow (fields_of lower.now) (fields_of upper.now) dialect }
-    requires differ { record_of (fields_of lower.now) ≡ record_of (fields_of upper.now) → ⊥ }
-    ensures { IfOk result (λ proof. ProvesBelow (sub_tree_of proof) (record_of (fields_of lower.now)) (record_of (fields_of upper.now)) dialect) }
+    ensures { IfOk result (λ steps. LeadsTo steps (record_of (fields_of lower.now)) (record_of (fields_of upper.now)) dialect) }
 {
     let premises = prove_fields(alloc, lower, upper, dialect)?;
-    record_proof(alloc, lower, upper, premises)
-}
-
-/// The proof for two record types, given the premises of the depth step.
-#[inline(never)]
-fn record_proof(
-    alloc: Global,
-    lower: &[(String, Ty)],
-    upper: &[(String, Ty)],
-    premises: Vec<SubProof>,
-) -> Result<SubProof, AllocError>
-    requires lower { AreWellFormed (fields_of lower.now) }
-    requires upper { AreWellFormed (fields_of upper.now) }
-    requires labels { HasLabelsOf (fields_of lower.now) (fields_of upper.now) }
-    requires premises { GoesFieldByField (picked (fields_of lower.now) (fields_of upper.now)) (fields_of upper.now) (claims_of premises.items) }
-    requires proofs { (d : Dialect) × AreSubProofs (sub_trees_of premises.items) d }
-    requires differ { record_of (fields_of lower.now) ≡ record_of (fields_of upper.now) → ⊥ }
-    ensures { IfOk result (λ proof. (d : Dialect) → AreSubProofs (sub_trees_of premises.items) d → ProvesBelow (sub_tree_of proof) (record_of (fields_of lower.now)) (record_of (fields_of upper.now)) d) }
-{
-    let Some(proof) = steps_between(alloc, lower, upper, premises)? else {
-        unreachable!();
-    };
-    Ok(proof)
+    steps_between(alloc, lower, upper, premises)
 }
 
 /// The steps between two record types, leaving out those that change nothing.
@@ -170,7 +169,7 @@ fn prove_picked(
     requires front { fields_of front.now ≡ picked (fields_of lower.now) (fields_of upper.now) }
     ensures { IfOk result (λ proof. (d : Dialect) → LeadsTo proof (record_of (fields_of lower.now)) (record_of (fields_of front.now)) d) }
 {
-    if same_fields(lower, front) {
+    if have_same_labels(lower, front) {
         return Ok(None);
     }
     let mut arranged = copy_of_fields(alloc, front)?;
@@ -251,7 +250,7 @@ fn conclude(
     })
 }
 
-/// A proof whose last step is between two record types, or `None` if they are equal.
+/// A proof whose last step is between two record types, or `None` if it would change nothing.
 #[inline(never)]
 fn record_step(
     alloc: Global,
@@ -265,7 +264,7 @@ fn record_step(
     requires by_rule { BySubRule rule (claims_of premises.items) (record_of (fields_of lower.items)) (record_of (fields_of upper.now)) }
     ensures { IfOk result (λ made. (d : Dialect) → IsRuleOf rule d → AreSubProofs (sub_trees_of premises.items) d → LeadsTo made (record_of (fields_of lower.items)) (record_of (fields_of upper.now)) d) }
 {
-    if same_fields(&lower, upper) {
+    if have_same_labels(&lower, upper) && are_by_refl(&premises) {
         return Ok(None);
     }
     let fields = copy_of_fields(alloc, upper)?;

@@ -3,15 +3,19 @@ use Rattle.std.proofs.lemmas.List.{drop_all}
 use Rattle.std.proofs.lemmas.Result.{IfOk-weaker}
 use Rattle.lam_rules.specs.Types.{Has, IsAbsent, arrow, record_of, IsWellFormed}
 use Rattle.lam_rules.specs.TypeViews.{typ_of, fields_of}
-use Rattle.lam_rules.specs.Subtyping.{BySubRule, ProvesBelow, IsBelow, IsRuleOf}
-use Rattle.lam_rules.specs.SubViews.{claims_of, sub_tree_of}
+use Rattle.lam_rules.specs.Subtyping.{BySubRule, ProvesBelow, IsBelow}
+use Rattle.lam_rules.specs.SubViews.{claims_of, sub_tree_of, sub_trees_of}
 use Rattle.lam_rules.specs.declared.rules.SubRule.{SubRule}
-use Rattle.lam_rules.proofs.TypeShapes.{typ_of-Top, typ_of-Arrow}
+use Rattle.lam_rules.proofs.TypeShapes.{typ_of-Arrow}
 use Rattle.lam_rules.proofs.ByShape.{below_wf}
+use Rattle.lam_rules.proofs.SubShapes.{conclusions-sub_trees_of}
+use Rattle.lam_sub.specs.inner.Unchanged.{AreByRefl}
+use Rattle.lam_sub.specs.inner.Steps.{LeadsTo}
 use Rattle.lam_sub.proofs.LookUps.{item_has}
 use Rattle.lam_sub.proofs.Below.{no_field, field_iff, nodes_of_field, record_inside}
 use Rattle.lam_sub.proofs.Arranging.{type_under_is, below_labels}
-use Rattle.lam_sub.proofs.ByVariant.{not_arrow, not_record, two_arrows, record_seen, nodes_of_record, nodes_of_arrow, only_bool_and_nat, field_first}
+use Rattle.lam_sub.proofs.ByVariant.{not_arrow, not_record, two_arrows, record_seen, nodes_of_record, nodes_of_arrow, field_first}
+use Rattle.lam_sub.proofs.UnchangedRecords.{AreReflexive, arrows_unchanged, refl_claims, without_parts}
 use Rattle.lam_sub.proofs.Steps.{concluded, stepped, claim_is, proofs_more, claims_more}
 use Rattle.lam_sub.proofs.proving.+prove.Goals as goal
 
@@ -54,8 +58,8 @@ prove_fields-returns-clause-claims t c =
 
 -- the steps between two record types
 
-pub prove_record-record_proof-requires-clause-labels : goal.prove_record-record_proof-requires-clause-labels
-prove_record-record_proof-requires-clause-labels t c = below_labels (fields_of c.args.lower.now) (fields_of c.args.upper.now) c.args.dialect c.requires.below
+pub prove_record-steps_between-requires-clause-labels : goal.prove_record-steps_between-requires-clause-labels
+prove_record-steps_between-requires-clause-labels t c = below_labels (fields_of c.args.lower.now) (fields_of c.args.upper.now) c.args.dialect c.requires.below
 
 -- the last step, by the shape of the two types
 
@@ -89,23 +93,28 @@ prove-prove_record-requires t c =
         subst (λ s. IsWellFormed s) (sym lower) wf.0,
         (
           subst (λ s. IsWellFormed s) (sym upper) wf.1,
-          (
-            record_inside (fields_of c.deref-in-Record-2.result.now) (fields_of c.deref-in-Record-4.result.now) c.args.dialect
-                (subst (λ s. IsBelow s (record_of (fields_of c.deref-in-Record-4.result.now)) c.args.dialect) (sym lower)
-                (subst (λ s. IsBelow (typ_of c.args.lower.now) s c.args.dialect) (sym upper) c.requires)),
-            λ alike. let e : c.same.result ≡ true = c.same.ensures.1 (sym lower ∙ alike ∙ upper) in cc,
-          ),
+          record_inside (fields_of c.deref-in-Record-2.result.now) (fields_of c.deref-in-Record-4.result.now) c.args.dialect
+              (subst (λ s. IsBelow s (record_of (fields_of c.deref-in-Record-4.result.now)) c.args.dialect) (sym lower)
+              (subst (λ s. IsBelow (typ_of c.args.lower.now) s c.args.dialect) (sym upper) c.requires)),
         ),
       ),
     )
 
-pub prove-returns-in-Top : goal.prove-returns-in-Top
-prove-returns-in-Top t c =
-    concluded SubRule.Top (typ_of c.args.lower.now) (typ_of c.args.upper.now) c.new-in-Top.result.items c.args.dialect c.conclude-in-Top.result c.new-in-Top.ensures.items
-    (below_wf _ _ _ c.requires) tt (ap typ_of c.in-Top.is ∙ typ_of-Top) c.conclude-in-Top.ensures
+pub prove-returns-then-are_by_refl : goal.prove-returns-then-are_by_refl
+prove-returns-then-are_by_refl t c =
+    let premises = c.in_ok-premises-in-Arrow.premises.items in
+    let lower : typ_of c.args.lower.now ≡ arrow (typ_of c.deref.result.now) (typ_of c.deref-in-Arrow.result.now)
+    = rw (c.deref.ensures, c.deref-in-Arrow.ensures) (ap typ_of c.in-Arrow-lower.is ∙ typ_of-Arrow c.in-Arrow-lower.lower_parameter c.in-Arrow-lower.lower_outcome) in
+    let upper : typ_of c.args.upper.now ≡ arrow (typ_of c.deref-in-Arrow-2.result.now) (typ_of c.deref-in-Arrow-3.result.now)
+    = rw (c.deref-in-Arrow-2.ensures, c.deref-in-Arrow-3.ensures) (ap typ_of c.in-Arrow.is ∙ typ_of-Arrow c.in-Arrow.upper_parameter c.in-Arrow.upper_outcome) in
+    let by_refl = subst (λ ps. AreByRefl (sub_trees_of ps)) c.deref-in-Arrow-4.ensures.value (c.are_by_refl.ensures.0 c.if-are_by_refl.true) in
+    let same = arrows_unchanged _ _ _ _ (claims_of premises) c.in_ok-premises-in-Arrow.ensures.by_rule
+        (subst AreReflexive (conclusions-sub_trees_of premises) (refl_claims (sub_trees_of premises) c.args.dialect by_refl c.in_ok-premises-in-Arrow.ensures.proofs)) in
+    concluded SubRule.Refl (typ_of c.args.lower.now) (typ_of c.args.upper.now) c.new.result.items c.args.dialect c.conclude.result c.new.ensures.items
+    (below_wf _ _ _ c.requires) tt (lower ∙ same ∙ sym upper) c.conclude.ensures
 
-pub prove-returns-in_ok-premises-in-Arrow : goal.prove-returns-in_ok-premises-in-Arrow
-prove-returns-in_ok-premises-in-Arrow t c =
+pub prove-returns-else-are_by_refl : goal.prove-returns-else-are_by_refl
+prove-returns-else-are_by_refl t c =
     let wf = below_wf _ _ _ c.requires in
     let premises = c.in_ok-premises-in-Arrow.premises.items in
     let lower : typ_of c.args.lower.now ≡ arrow (typ_of c.deref.result.now) (typ_of c.deref-in-Arrow.result.now)
@@ -124,18 +133,21 @@ prove_sides-returns-clause-by_rule t c =
     subst (λ qs. BySubRule SubRule.Arrow (claims_of qs) (arrow (typ_of c.args.lower_parameter.now) (typ_of c.args.lower_outcome.now)) (arrow (typ_of c.args.upper_parameter.now) (typ_of c.args.upper_outcome.now)))
     (sym c.in_ok-premises.ensures.items) (parameters.0, parameters.1, outcomes.0, outcomes.1)
 
-pub prove-returns-in-Record-lower : goal.prove-returns-in-Record-lower
-prove-returns-in-Record-lower t c =
+pub prove-returns-in-Some : goal.prove-returns-in-Some
+prove-returns-in-Some t c =
     let lower = record_seen c.args.lower.now _ _ c.deref-in-Record-2.result.now c.in-Record-lower.is c.deref-in-Record.ensures c.deref-in-Record-2.ensures.value in
     let upper = record_seen c.args.upper.now _ _ c.deref-in-Record-4.result.now c.in-Record.is c.deref-in-Record-3.ensures c.deref-in-Record-4.ensures.value in
-    IfOk-weaker c.prove_record.result _ (λ made. ProvesBelow (sub_tree_of made) (typ_of c.args.lower.now) (typ_of c.args.upper.now) c.args.dialect)
-    (λ made proves. subst (λ s. ProvesBelow (sub_tree_of made) s (typ_of c.args.upper.now) c.args.dialect) lower
-    (subst (λ s. ProvesBelow (sub_tree_of made) (record_of (fields_of c.deref-in-Record-2.result.now)) s c.args.dialect) upper proves))
-    c.prove_record.ensures
+    let steps = subst (λ o. LeadsTo o (record_of (fields_of c.deref-in-Record-2.result.now)) (record_of (fields_of c.deref-in-Record-4.result.now)) c.args.dialect) c.in-Some.is c.in_ok-steps-in-Record.ensures in
+    subst (λ s. ProvesBelow (sub_tree_of c.in-Some.proof) s (typ_of c.args.upper.now) c.args.dialect) lower
+    (subst (λ s. ProvesBelow (sub_tree_of c.in-Some.proof) (record_of (fields_of c.deref-in-Record-2.result.now)) s c.args.dialect) upper steps)
 
-pub prove-returns-in_default : goal.prove-returns-in_default
-prove-returns-in_default t c =
-    let are = only_bool_and_nat c.args.lower.now c.args.upper.now c.args.dialect c.in_default.not-Top c.in_default.not-Arrow c.in_default.not-Record
-    (λ e. let s : c.same.result ≡ true = c.same.ensures.1 e in cc) c.requires in
-    concluded SubRule.BoolNat (typ_of c.args.lower.now) (typ_of c.args.upper.now) c.new-in_default.result.items c.args.dialect c.conclude-in_default.result c.new-in_default.ensures.items
-    (below_wf _ _ _ c.requires) (subst (λ d. IsRuleOf SubRule.BoolNat d) (sym are.2) tt) (are.0, are.1) c.conclude-in_default.ensures
+pub prove-returns-in-None : goal.prove-returns-in-None
+prove-returns-in-None t c =
+    let lower = record_seen c.args.lower.now _ _ c.deref-in-Record-2.result.now c.in-Record-lower.is c.deref-in-Record.ensures c.deref-in-Record-2.ensures.value in
+    let upper = record_seen c.args.upper.now _ _ c.deref-in-Record-4.result.now c.in-Record.is c.deref-in-Record-3.ensures c.deref-in-Record-4.ensures.value in
+    let same = subst (λ o. LeadsTo o (record_of (fields_of c.deref-in-Record-2.result.now)) (record_of (fields_of c.deref-in-Record-4.result.now)) c.args.dialect) c.in-None.is c.in_ok-steps-in-Record.ensures in
+    concluded SubRule.Refl (typ_of c.args.lower.now) (typ_of c.args.upper.now) c.new-in-None.result.items c.args.dialect c.conclude-in-None.result c.new-in-None.ensures.items
+    (below_wf _ _ _ c.requires) tt (sym lower ∙ same ∙ upper) c.conclude-in-None.ensures
+
+pub prove-prove_without_parts-requires : goal.prove-prove_without_parts-requires
+prove-prove_without_parts-requires t c = without_parts c.args.upper.now c.in_default.not-Arrow c.in_default.not-Record

@@ -1,10 +1,11 @@
-use Rattle.std.proofs.Common.{refl, subst, sym}
+use Rattle.std.proofs.Common.{refl, subst, sym, ap}
 use Rattle.std.proofs.lemmas.Result.{IfOk-weaker}
-use Rattle.lam_rules.specs.Types.{record_of, AreWellFormed}
+use Rattle.lam_rules.specs.Types.{record_of, AreWellFormed, Has}
 use Rattle.lam_rules.specs.TypeViews.{fields_of}
 use Rattle.lam_rules.specs.declared.rules.Dialect.{Dialect}
 use Rattle.lam_sub.specs.inner.Steps.{LeadsTo}
-use Rattle.lam_sub.proofs.Arranging.{arranged, picked_wf, arranged_wf}
+use Rattle.lam_sub.proofs.Arranging.{arranged, picked_are, picked_wf, arranged_wf}
+use Rattle.lam_sub.proofs.UnchangedRecords.{same_if}
 use Rattle.lam_sub.proofs.Steps.{arranged_is, permutation_by, width_by, no_premises}
 use Rattle.lam_sub.proofs.proving.prove_picked.Goals as goal
 
@@ -55,3 +56,11 @@ returns c =
     (subst (λ hs. LeadsTo c.in_ok-cut.cut (record_of hs) (record_of front) d)
     (arranged_is _ _ _ _ _ fs gs c.requires.front refl c.in_ok-arranged.ensures c.in_ok-append_others.ensures refl)
     (c.in_ok-cut.ensures d tt (no_premises _ d c.new-2.ensures.items)))) c.chain.ensures
+
+pub returns-then-have_same_labels : goal.returns-then-have_same_labels
+returns-then-have_same_labels c = λ d.
+    let fs = fields_of c.args.lower.now in
+    let gs = fields_of c.args.upper.now in
+    ap record_of (same_if fs fs (fields_of c.args.front.now) c.requires.lower (λ l t has. has)
+    (λ l t has. (picked_are fs gs c.requires.labels l t (subst (λ hs. Has l t hs) c.requires.front has)).0)
+    (c.have_same_labels.ensures.0 c.if-have_same_labels.true))
