@@ -109,7 +109,7 @@ prove-returns-then-are_by_refl t c =
     = rw (c.deref-in-Arrow-2.ensures, c.deref-in-Arrow-3.ensures) (ap typ_of c.in-Arrow.is ∙ typ_of-Arrow c.in-Arrow.upper_parameter c.in-Arrow.upper_outcome) in
     let by_refl = subst (λ ps. AreByRefl (sub_trees_of ps)) c.deref-in-Arrow-4.ensures.value (c.are_by_refl.ensures.0 c.if-are_by_refl.true) in
     let same = arrows_unchanged _ _ _ _ (claims_of premises) c.in_ok-premises-in-Arrow.ensures.by_rule
-        (subst AreReflexive (conclusions-sub_trees_of premises) (refl_claims (sub_trees_of premises) c.args.dialect by_refl c.in_ok-premises-in-Arrow.ensures.proofs)) in
+    (subst AreReflexive (conclusions-sub_trees_of premises) (refl_claims (sub_trees_of premises) c.args.dialect by_refl c.in_ok-premises-in-Arrow.ensures.proofs)) in
     concluded SubRule.Refl (typ_of c.args.lower.now) (typ_of c.args.upper.now) c.new.result.items c.args.dialect c.conclude.result c.new.ensures.items
     (below_wf _ _ _ c.requires) tt (lower ∙ same ∙ sym upper) c.conclude.ensures
 
