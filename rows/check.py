@@ -519,6 +519,8 @@ def main():
     words = argparse.ArgumentParser(description=__doc__.partition(":")[0])
     words.add_argument("--program", default=BUILT, help="the built checker; where none is named, that of `make`")
     program = os.path.realpath(words.parse_args().program)
+    if not os.path.isfile(program):
+        sys.exit(f"there is no program {program}: run make, or name one by --program")
     failed = 0
     for case in CASES:
         what = wrong(program, case)
