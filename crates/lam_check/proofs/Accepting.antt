@@ -17,12 +17,13 @@ use Rattle.lam_session.specs.Derivations.{derivation_value}
 use Rattle.lam_query.specs.FirstFaults.{IsFirstFault, IsSound}
 use Rattle.lam_check.specs.Readable.{IsReadable, IsReadableConclusion}
 use Rattle.lam_check.specs.Verdicts.{accepted_line, refused_line, message, unread_text, IsVerdict, accepts, refuses, reads_none}
+use Rattle.lam_check.specs.Unreadable.{IsWrongFor}
 use Rattle.lam_check.specs.Verified.{IsVerifiedValue}
 use Rattle.lam_query.specs.declared.answers.FirstFault.{FirstFault}
 use Rattle.lam_check.specs.declared.read_derivations.Unread.{Unread}
-use Rattle.lam_check.specs.declared.read_derivations.Unread.TheVariants.{Memory}
 use Rattle.lam_check.specs.declared.reports.Checked.{Checked}
 use Rattle.lam_check.proofs.SentValues.{one_readable}
+use Rattle.lam_check.proofs.Unreadable.{wrong_for}
 
 -- the steps of a readable derivation
 pub steps_stand : (text : List ℕ) (steps : List RustStep) → All (λ s. IsReadableConclusion text s.conclusion) (map step_of steps) → All (StepStandsIn text) steps
@@ -72,8 +73,9 @@ module _ (name : Text) (text : List ℕ) (value : Data) (d : Dialect) where
       subst (IsVerdict name text value d (string_bytes v.report)) (sym one) (refuses (record { derivation = x; is_value = is; readable = readable; not_sound = not_sound; fault = fault; first = first; shown = shown }))
   refused_report (Err e) x is readable not_sound fault first one shown = tt
 
-  pub unread_report : (r : Result Checked AllocError) → ((x : Derivation) → IsReadable text x → value ≡ derivation_value Utf16 text (Some x) → ⊥) → (fault : Unread) → (fault ≡ Memory → ⊥)
-      → IfOk r (λ v. v.count ≡ 1) → IfOk r (λ v. string_bytes v.report ≡ refused_line name (unread_text fault)) → IfOk r IsReport
-  unread_report (Ok v) none fault not_memory one shown =
-      subst (IsVerdict name text value d (string_bytes v.report)) (sym one) (reads_none (record { unreadable = none; fault = fault; not_memory = not_memory; shown = shown }))
-  unread_report (Err e) none fault not_memory one shown = tt
+  pub unread_report : (r : Result Checked AllocError) (reason : Unread) → IsWrongFor Utf16 text value reason → IfOk r (λ v. v.count ≡ 1)
+      → IfOk r (λ v. string_bytes v.report ≡ refused_line name (unread_text reason)) → IfOk r IsReport
+  unread_report (Ok v) reason right one shown =
+      let none = wrong_for Utf16 text value reason right in
+      subst (IsVerdict name text value d (string_bytes v.report)) (sym one) (reads_none (record { unreadable = none; reason = reason; right = right; shown = shown }))
+  unread_report (Err e) reason right one shown = tt

@@ -5,5 +5,6 @@ pub mod Uncommented
 pub mod Drawing
 pub mod PlainTypes
 pub mod ReadValues
+pub mod Unreadable
 pub mod SentValues
 pub mod Accepting

@@ -15,14 +15,10 @@ use Rattle.lam_text.specs.declared.places.Position.{Position}
 use Rattle.lam_text.specs.declared.units.Encoding.{Encoding}
 use Rattle.lam_text.specs.Positions.{position_of, offset_of}
 use Rattle.lam_text.proofs.LawLemmas.{comes_back}
-use Rattle.lam_rules.specs.Types.{Typ}
-use Rattle.lam_rules.specs.Texts.{plain_text}
-use Rattle.lam_query.specs.Steps.{Step, Conclusion, typing, subtyping}
-use Rattle.lam_session.specs.Derivations.{conclusion_value, step_value}
 use Rattle.lam_session.specs.Ranges.{position_value}
-use Rattle.lam_check.specs.Readable.{IsReadableConclusion, IsReadableOffset, IsReadableType}
+use Rattle.lam_check.specs.Readable.{IsReadableOffset}
 use Rattle.lam_check.specs.declared.read_derivations.Unread.{Unread}
-use Rattle.lam_check.specs.inner.Read.{IsUnread, number_value, subtyping_members}
+use Rattle.lam_check.specs.inner.Read.{IfUnread, number_value}
 
 -- ---- the values so far
 
@@ -50,17 +46,15 @@ one_more_readable P items more x pushed all here = All-same P more (items ++ x �
 
 -- ---- one of the values
 
-pub value_there : {A : Type 0} (f : A → Data) (P : A → Type 0) (values : List Value) (xs : List A) (i : ℕ) (v : Value) → i < length values → All P xs → map view values ≡ map f xs
-    → (x : A) × P x × (view (get_or values i v) ≡ f x)
-value_there f P [] xs i v inside all are = absurd (omega arith)
-value_there f P (w ∷ values) [] i v inside all are = let clash : view w ∷ map view values ≡ [] = are in absurd cc
-value_there f P (w ∷ values) (x ∷ xs) zero v inside all are =
-    let both : view w ∷ map view values ≡ f x ∷ map f xs = are in
-    (x, All-head P x xs all, cc)
-value_there f P (w ∷ values) (x ∷ xs) (suc i) v inside all are =
+pub value_there : {A : Type 0} (f : A → Data) (values : List Value) (xs : List A) (i : ℕ) (v : Value) → i < length values → map view values ≡ map f xs
+    → (x : A) × (view (get_or values i v) ≡ f x)
+value_there f [] xs i v inside are = absurd (omega arith)
+value_there f (w ∷ values) [] i v inside are = let clash : view w ∷ map view values ≡ [] = are in absurd cc
+value_there f (w ∷ values) (x ∷ xs) zero v inside are = let both : view w ∷ map view values ≡ f x ∷ map f xs = are in (x, cc)
+value_there f (w ∷ values) (x ∷ xs) (suc i) v inside are =
     let both : view w ∷ map view values ≡ f x ∷ map f xs = are in
     let rest : map view values ≡ map f xs = cc in
-    value_there f P values xs i v (omega arith) (All-tail P x xs all) rest
+    value_there f values xs i v (omega arith) rest
 
 -- ---- positions
 
@@ -90,9 +84,9 @@ not_other_place a b differ same =
 pub not_a_number : (d : Data) (n : ℕ) → d ≡ number_value n → None ≡ option_and_then as_u64 (as_number d) → ⊥
 not_a_number d n is none = let clash : None ≡ Some n = none ∙ ap (λ e. option_and_then as_u64 (as_number e)) is in absurd cc
 
-pub unread_before : {T P Q : Type 0} (r : Result T Unread) → (Q → P) → IsUnread r P → IsUnread r Q
-unread_before (Ok x) f h = tt
-unread_before (Err e) f h = λ other q. h other (f q)
+pub unread_through : {T : Type 0} {P Q : Unread → Type 0} (r : Result T Unread) → ((reason : Unread) → P reason → Q reason) → IfUnread r P → IfUnread r Q
+unread_through (Ok x) f h = tt
+unread_through (Err reason) f h = λ other. f reason (h other)
 
 pub items_same : (xs ys : List Data) → items_of xs ≡ items_of ys → xs ≡ ys
 items_same [] [] e = refl
@@ -120,14 +114,3 @@ two_views {w = w} {x = x} {y = y} {z = z} {k = k} {l = l} e f =
     let first : w ≡ y = cc in
     let second : x ≡ z = cc in
     (first, second)
-
--- A step of subtyping that is read from these members has an upper type that is read from the last.
-pub unread_upper : (from lower rule upper : Data) (encoding : Encoding) (text : List ℕ)
-    → ((x : Step) × IsReadableConclusion text x.conclusion × (subtyping_members from lower rule upper ≡ step_value encoding text x))
-    → (t : Typ) × IsReadableType t × (upper ≡ string (plain_text t))
-unread_upper from lower rule upper encoding text h = by h.0.conclusion h.1 h.2
-  where
-    by : (c : Conclusion) → IsReadableConclusion text c → subtyping_members from lower rule upper ≡ conclusion_value encoding text h.0.premises c
-        → (t : Typ) × IsReadableType t × (upper ≡ string (plain_text t))
-    by (typing r s t) readable is = absurd cc
-    by (subtyping r l u) readable is = (u, readable.1, cc)

@@ -21,7 +21,8 @@ use Rattle.lam_query.specs.Steps.{Conclusion, typing, subtyping, Step}
 use Rattle.lam_session.specs.Derivations.{type_value, entry_value, premises_value, conclusion_value, step_value, derivation_value}
 use Rattle.lam_session.specs.Ranges.{position_value, range_value}
 use Rattle.lam_check.specs.Readable.{IsReadable, IsReadableConclusion, IsReadableOffset, IsReadableSpan, IsReadableType}
-use Rattle.lam_check.specs.inner.Read.{number_value, typing_members, subtyping_members}
+use Rattle.lam_check.specs.Unreadable.{typing_members, subtyping_members}
+use Rattle.lam_check.specs.inner.Read.{number_value}
 use Rattle.lam_check.proofs.ReadValues.{items_same, same_position, two_views}
 
 -- ---- lists

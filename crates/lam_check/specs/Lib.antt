@@ -7,6 +7,7 @@ pub mod Absences
 pub mod Types
 pub mod Json
 pub mod Readable
+pub mod Unreadable
 pub mod Verified
 pub mod Verdicts
 pub mod inner

@@ -13,6 +13,7 @@ use Rattle.lam_check.specs.Drawings.{claim_text, line}
 use Rattle.lam_query.specs.FirstFaults.{IsFirstFault, IsSound, last_conclusion}
 use Rattle.lam_check.specs.Lines.{shown_line}
 use Rattle.lam_check.specs.Readable.{IsReadable}
+use Rattle.lam_check.specs.Unreadable.{IsWrongFor}
 use Rattle.lam_check.specs.Verified.{IsVerifiedValue}
 use Rattle.lam_query.specs.declared.answers.FirstFault.{FirstFault}
 use Rattle.lam_query.specs.declared.answers.FirstFault.TheVariants as faults
@@ -78,14 +79,14 @@ message (faults.Range n) = codes "step " ++ decimal n ++ codes " has the range o
 
 -- why a value is not read as a derivation
 unfoldable pub unread_text : Unread → Text
-unread_text unread.Derivation = codes "it is no derivation: an object of `context` and `steps`, both lists"
-unread_text (unread.Entry n) = codes "entry " ++ decimal n ++ codes " of the context is no object of `name` and `type`"
-unread_text (unread.EntryType n) = codes "entry " ++ decimal n ++ codes " of the context has no type of at most 4,096 levels"
-unread_text (unread.Step n) = codes "step " ++ decimal n ++ codes " has no object of `from`, `range`, `rule` and `type`, or of `from`, `lower`, `rule` and `upper`"
-unread_text (unread.Rule n) = codes "step " ++ decimal n ++ codes " names a rule that there is not"
-unread_text (unread.Type n) = codes "step " ++ decimal n ++ codes " has no type of at most 4,096 levels"
-unread_text (unread.Range n) = codes "step " ++ decimal n ++ codes " has a range that is not in the text"
-unread_text (unread.From n) = codes "step " ++ decimal n ++ codes " follows `from` no list of numbers of steps"
+unread_text unread.Derivation = codes "it is no object of exactly `context` and `steps`, both lists"
+unread_text (unread.Entry n) = codes "entry " ++ decimal n ++ codes " is no object of a name and a type"
+unread_text (unread.EntryType n) = codes "entry " ++ decimal n ++ codes " has an unreadable type, or one of over 4,096 levels"
+unread_text (unread.Step n) = codes "step " ++ decimal n ++ codes " is no object of exactly `from`, `range`, `rule` and `type`, or `from`, `lower`, `rule` and `upper`"
+unread_text (unread.Rule n) = codes "step " ++ decimal n ++ codes " names no rule of its kind"
+unread_text (unread.Type n) = codes "step " ++ decimal n ++ codes " has an unreadable type, or one of over 4,096 levels"
+unread_text (unread.Range n) = codes "step " ++ decimal n ++ codes " has no range of characters of the text"
+unread_text (unread.From n) = codes "`from` of step " ++ decimal n ++ codes " is no list of step numbers"
 unread_text unread.Memory = codes "out of memory"
 
 -- `NAME: MESSAGE`
@@ -113,9 +114,9 @@ pub record IsRefused (name : Text) (text : List ℕ) (value : Data) (d : Dialect
 -- The value is that of no readable derivation, and the line says why it is not read.
 pub record IsUnreadable (name : Text) (text : List ℕ) (value : Data) (report : Text) : Type 0 where
   pub unreadable : (derivation : Derivation) → IsReadable text derivation → value ≡ derivation_value Utf16 text (Some derivation) → ⊥
-  pub fault : Unread
-  pub not_memory : fault ≡ unread.Memory → ⊥
-  pub shown : report ≡ refused_line name (unread_text fault)
+  pub reason : Unread
+  pub right : IsWrongFor Utf16 text value reason
+  pub shown : report ≡ refused_line name (unread_text reason)
 
 -- The report on a value that was sent as a derivation of a text under this name. It is counted unless it is accepted.
 pub data IsVerdict (name : Text) (text : List ℕ) (value : Data) (d : Dialect) (report : Text) : (count : ℕ) → Type 0 where

@@ -1,7 +1,7 @@
 //! Derivations read back from JSON values.
-ghost use Rattle.std.specs.Prelude.{◌≡◌, ℕ, List, Option, map, All, IfOk, IfSome, IfNone};
+ghost use Rattle.std.specs.Prelude.{◌≡◌, ◌≢◌, ℕ, List, Option, map, All, IfOk, IfSome, IfNone};
 ghost use Rattle.std.specs.Str.{IsUtf8};
-ghost use Rattle.serde_json.specs.Data.{string};
+ghost use Rattle.serde_json.specs.Data.{null, string};
 ghost use Rattle.serde_json.specs.View.{view};
 ghost use Rattle.lam_rules.specs.Types.{Typ};
 ghost use Rattle.lam_rules.specs.TypeViews.{typ_of};
@@ -11,12 +11,13 @@ ghost use Rattle.lam_rules.specs.Rules.{name_of_sub_rule, name_of_type_rule};
 ghost use Rattle.lam_text.specs.Positions.{position_of};
 ghost use Rattle.lam_text.specs.declared.units.Encoding.{Encoding};
 ghost use Rattle.lam_query.specs.Views.{derivation_of, entry_of, step_of};
-ghost use Rattle.lam_query.specs.Derivations.{ContextEntry, Derivation as DerivationTree};
-ghost use Rattle.lam_query.specs.Steps.{Step as StepTree};
+ghost use Rattle.lam_query.specs.Derivations.{Derivation as DerivationTree};
 ghost use Rattle.lam_session.specs.Derivations.{derivation_value, entry_value, premises_value, step_value, type_value};
 ghost use Rattle.lam_session.specs.Ranges.{position_value, range_value};
 ghost use Rattle.lam_check.specs.Readable.{IsReadable, IsReadableConclusion, IsReadableOffset, IsReadableSpan, IsReadableType};
-ghost use Rattle.lam_check.specs.inner.Read.{IsUnread, number_value, typing_members, subtyping_members};
+ghost use Rattle.lam_check.specs.Unreadable.{AreNoPremises, IsReadableEntry, IsFirstWrong, IsNoReadableRange, IsNoSubRule, IsNoReadableType, IsNoTypeRule, IsReadableStep, IsWrongEntry, IsWrongFor, IsWrongStep, IsWrongSubtyping, IsWrongTyping, subtyping_members, typing_members};
+ghost use Rattle.lam_check.specs.declared.read_derivations.Unread.{Unread};
+ghost use Rattle.lam_check.specs.inner.Read.{IfUnread, number_value};
 
 use crate::plain_types::type_of_text;
 use crate::read_values::{four_members, two_members};
@@ -30,32 +31,33 @@ use std::alloc::{AllocError, Global};
 /// Why a value cannot be read as a derivation of a text. Entries and steps are counted from 0.
 #[derive(Clone, Copy, Debug, PartialEq, Eq)]
 pub enum Unread {
-    /// It is no object of a context and steps, both lists.
+    /// It is no object of exactly a context and steps, both lists.
     Derivation,
-    /// This entry of the context is no object of a name and a type.
+    /// This entry of the context is no object of exactly a name, a string, and a type.
     Entry(usize),
-    /// The text of this entry's type is none of a type, or of one that is too deep.
+    /// The type of this entry is neither null nor the text of a readable type.
     EntryType(usize),
-    /// This step has not the members that a step has.
+    /// This step is no object of exactly the members of a typing or a subtyping step.
     Step(usize),
-    /// There is no rule with the name in this step.
+    /// No typing rule, or no subtyping rule in a subtyping step, has the name that this step gives.
     Rule(usize),
-    /// The text of a type in this step is none of a type, or of one that is too deep.
+    /// A type in this step is not the text of a readable type.
     Type(usize),
-    /// The range of this step is not one of the text.
+    /// The range of this step is not that of a readable span of the text.
     Range(usize),
-    /// The premises of this step are no list of numbers.
+    /// The premises of this step are no list of natural numbers.
     From(usize),
     /// An allocation failed.
     Memory,
 }
 
-/// Reads a value as a derivation of the text.
+/// Reads a value as a derivation of the text. The error is about the first entry of the context, or else the first step, that
+/// cannot be read.
 pub fn derivation_in(alloc: Global, doc: &Doc, value: &Value) -> Result<Derivation, Unread>
     requires { IsUtf8 doc.now.text }
     ensures read { IfOk result (λ d. view value.now ≡ derivation_value doc.now.encoding doc.now.text (Some (derivation_of d))) }
     ensures readable { IfOk result (λ d. IsReadable doc.now.text (derivation_of d)) }
-    ensures unread { IsUnread result ((d : DerivationTree) × IsReadable doc.now.text d × (view value.now ≡ derivation_value doc.now.encoding doc.now.text (Some d))) }
+    ensures unread { IfUnread result (IsWrongFor doc.now.encoding doc.now.text (view value.now)) }
 {
     let Some((context, steps)) = two_members(value, "context", "steps") else {
         return Err(Unread::Derivation);
@@ -85,7 +87,7 @@ pub fn one_derivation(text: &str)
 fn context_in(alloc: Global, values: &[Value]) -> Result<Vec<(String, Option<Ty>)>, Unread>
     ensures read { IfOk result (λ context. map view values.now ≡ map entry_value (map entry_of context.items)) }
     ensures readable { IfOk result (λ context. All (λ e. IfSome e.type IsReadableType) (map entry_of context.items)) }
-    ensures unread { IsUnread result ((context : List ContextEntry) × All (λ e. IfSome e.type IsReadableType) context × (map view values.now ≡ map entry_value context)) }
+    ensures unread { IfUnread result (IsFirstWrong IsReadableEntry IsWrongEntry (map view values.now)) }
 {
     let mut context = Vec::new(alloc);
     for i in 0..values.len() {
@@ -105,7 +107,7 @@ fn context_in(alloc: Global, values: &[Value]) -> Result<Vec<(String, Option<Ty>
 fn entry_in(alloc: Global, number: usize, value: &Value) -> Result<(String, Option<Ty>), Unread>
     ensures read { IfOk result (λ entry. view value.now ≡ entry_value (entry_of entry)) }
     ensures readable { IfOk result (λ entry. IfSome (entry_of entry).type IsReadableType) }
-    ensures unread { IsUnread result ((entry : ContextEntry) × IfSome entry.type IsReadableType × (view value.now ≡ entry_value entry)) }
+    ensures unread { IfUnread result (IsWrongEntry (view value.now) number) }
 {
     let Some((name, ty)) = two_members(value, "name", "type") else {
         return Err(Unread::Entry(number));
@@ -124,7 +126,7 @@ fn entry_in(alloc: Global, number: usize, value: &Value) -> Result<(String, Opti
 fn entry_type_in(alloc: Global, number: usize, value: &Value) -> Result<Option<Ty>, Unread>
     ensures read { IfOk result (λ ty. view value.now ≡ type_value (written_of ty)) }
     ensures readable { IfOk result (λ ty. IfSome (written_of ty) IsReadableType) }
-    ensures unread { IsUnread result ((type : Option Typ) × IfSome type IsReadableType × (view value.now ≡ type_value type)) }
+    ensures unread { IfUnread result (λ reason. (reason ≡ Unread.EntryType number) × (view value.now ≢ null) × IsNoReadableType (view value.now)) }
 {
     if value.is_null() {
         return Ok(None);
@@ -140,7 +142,7 @@ fn entry_type_in(alloc: Global, number: usize, value: &Value) -> Result<Option<T
 fn type_in(alloc: Global, value: &Value) -> Result<Option<Ty>, AllocError>
     ensures some { IfOk result (λ found. IfSome found (λ ty. view value.now ≡ string (plain_text (typ_of ty)))) }
     ensures readable { IfOk result (λ found. IfSome found (λ ty. IsReadableType (typ_of ty))) }
-    ensures none { IfOk result (λ found. IfNone found ((t : Typ) → IsReadableType t → view value.now ≡ string (plain_text t) → ⊥)) }
+    ensures none { IfOk result (λ found. IfNone found (IsNoReadableType (view value.now))) }
 {
     match value.as_str() {
         Some(text) => type_of_text(alloc, text),
@@ -152,7 +154,7 @@ fn steps_in(alloc: Global, doc: &Doc, values: &[Value]) -> Result<Vec<Step>, Unr
     requires { IsUtf8 doc.now.text }
     ensures read { IfOk result (λ steps. map view values.now ≡ map (step_value doc.now.encoding doc.now.text) (map step_of steps.items)) }
     ensures readable { IfOk result (λ steps. All (λ s. IsReadableConclusion doc.now.text s.conclusion) (map step_of steps.items)) }
-    ensures unread { IsUnread result ((steps : List StepTree) × All (λ s. IsReadableConclusion doc.now.text s.conclusion) steps × (map view values.now ≡ map (step_value doc.now.encoding doc.now.text) steps)) }
+    ensures unread { IfUnread result (IsFirstWrong (IsReadableStep doc.now.encoding doc.now.text) (IsWrongStep doc.now.encoding doc.now.text) (map view values.now)) }
 {
     let mut steps = Vec::new(alloc);
     for i in 0..values.len() {
@@ -173,7 +175,7 @@ fn step_in(alloc: Global, doc: &Doc, number: usize, value: &Value) -> Result<Ste
     requires { IsUtf8 doc.now.text }
     ensures read { IfOk result (λ step. view value.now ≡ step_value doc.now.encoding doc.now.text (step_of step)) }
     ensures readable { IfOk result (λ step. IsReadableConclusion doc.now.text (step_of step).conclusion) }
-    ensures unread { IsUnread result ((step : StepTree) × IsReadableConclusion doc.now.text step.conclusion × (view value.now ≡ step_value doc.now.encoding doc.now.text step)) }
+    ensures unread { IfUnread result (IsWrongStep doc.now.encoding doc.now.text (view value.now) number) }
 {
     if let Some((from, range, rule, ty)) = four_members(value, "from", "range", "rule", "type") {
         return typing_in(alloc, doc, number, from, range, rule, ty);
@@ -198,8 +200,7 @@ fn typing_in(
     requires { IsUtf8 doc.now.text }
     ensures read { IfOk result (λ step. typing_members (view from.now) (view range.now) (view rule.now) (view ty.now) ≡ step_value doc.now.encoding doc.now.text (step_of step)) }
     ensures readable { IfOk result (λ step. IsReadableConclusion doc.now.text (step_of step).conclusion) }
-    ensures unread { IsUnread result ((step : StepTree) × IsReadableConclusion doc.now.text step.conclusion
-        × (typing_members (view from.now) (view range.now) (view rule.now) (view ty.now) ≡ step_value doc.now.encoding doc.now.text step)) }
+    ensures unread { IfUnread result (IsWrongTyping doc.now.encoding doc.now.text (view from.now) (view range.now) (view rule.now) (view ty.now) number) }
 {
     let Some(rule) = type_rule_in(rule) else {
         return Err(Unread::Rule(number));
@@ -229,8 +230,7 @@ fn subtyping_in(
     ensures read { IfOk result (λ step. (encoding : Encoding) (text : List ℕ)
         → subtyping_members (view from.now) (view lower.now) (view rule.now) (view upper.now) ≡ step_value encoding text (step_of step)) }
     ensures readable { (text : List ℕ) → IfOk result (λ step. IsReadableConclusion text (step_of step).conclusion) }
-    ensures unread { (encoding : Encoding) (text : List ℕ) → IsUnread result ((step : StepTree) × IsReadableConclusion text step.conclusion
-        × (subtyping_members (view from.now) (view lower.now) (view rule.now) (view upper.now) ≡ step_value encoding text step)) }
+    ensures unread { IfUnread result (IsWrongSubtyping (view from.now) (view lower.now) (view rule.now) (view upper.now) number) }
 {
     let Some(rule) = sub_rule_in(rule) else {
         return Err(Unread::Rule(number));
@@ -250,7 +250,7 @@ fn subtyping_in(
 fn step_type_in(alloc: Global, number: usize, value: &Value) -> Result<Ty, Unread>
     ensures read { IfOk result (λ ty. view value.now ≡ string (plain_text (typ_of ty))) }
     ensures readable { IfOk result (λ ty. IsReadableType (typ_of ty)) }
-    ensures unread { IsUnread result ((t : Typ) × IsReadableType t × (view value.now ≡ string (plain_text t))) }
+    ensures unread { IfUnread result (λ reason. (reason ≡ Unread.Type number) × IsNoReadableType (view value.now)) }
 {
     match type_in(alloc, value) {
         Ok(Some(ty)) => Ok(ty),
@@ -262,7 +262,7 @@ fn step_type_in(alloc: Global, number: usize, value: &Value) -> Result<Ty, Unrea
 /// Reads the indices of the premises of the step with this index.
 fn premises_in(alloc: Global, number: usize, value: &Value) -> Result<Vec<usize>, Unread>
     ensures read { IfOk result (λ numbers. view value.now ≡ premises_value numbers.items) }
-    ensures unread { IsUnread result ((numbers : List ℕ) × (view value.now ≡ premises_value numbers)) }
+    ensures unread { IfUnread result (λ reason. (reason ≡ Unread.From number) × AreNoPremises (view value.now)) }
 {
     match value.as_array() {
         Some(values) => numbers_in(alloc, number, values),
@@ -272,7 +272,7 @@ fn premises_in(alloc: Global, number: usize, value: &Value) -> Result<Vec<usize>
 
 fn numbers_in(alloc: Global, number: usize, values: &[Value]) -> Result<Vec<usize>, Unread>
     ensures read { IfOk result (λ numbers. map view values.now ≡ map number_value numbers.items) }
-    ensures unread { IsUnread result ((numbers : List ℕ) × (map view values.now ≡ map number_value numbers)) }
+    ensures unread { IfUnread result (λ reason. (reason ≡ Unread.From number) × ((numbers : List ℕ) → map view values.now ≢ map number_value numbers)) }
 {
     let mut numbers = Vec::new(alloc);
     for i in 0..values.len() {
@@ -292,7 +292,7 @@ fn span_in(doc: &Doc, value: &Value) -> Option<Span>
     requires { IsUtf8 doc.now.text }
     ensures some { IfSome result (λ span. view value.now ≡ range_value doc.now.encoding doc.now.text span) }
     ensures readable { IfSome result (IsReadableSpan doc.now.text) }
-    ensures none { IfNone result ((span : Span) → IsReadableSpan doc.now.text span → view value.now ≡ range_value doc.now.encoding doc.now.text span → ⊥) }
+    ensures none { IfNone result (IsNoReadableRange doc.now.encoding doc.now.text (view value.now)) }
 {
     let Some((end, start)) = two_members(value, "end", "start") else {
         return None;
@@ -332,7 +332,7 @@ fn position_in(value: &Value) -> Option<Position>
 /// Reads the name of a typing rule.
 fn type_rule_in(value: &Value) -> Option<TypeRule>
     ensures some { IfSome result (λ rule. view value.now ≡ string (name_of_type_rule rule)) }
-    ensures none { IfNone result ((rule : TypeRule) → view value.now ≡ string (name_of_type_rule rule) → ⊥) }
+    ensures none { IfNone result (IsNoTypeRule (view value.now)) }
 {
     match value.as_str() {
         Some(name) => type_rule_named(name),
@@ -369,7 +369,7 @@ fn type_rule_named(name: &str) -> Option<TypeRule>
 /// Reads the name of a subtyping rule.
 fn sub_rule_in(value: &Value) -> Option<SubRule>
     ensures some { IfSome result (λ rule. view value.now ≡ string (name_of_sub_rule rule)) }
-    ensures none { IfNone result ((rule : SubRule) → view value.now ≡ string (name_of_sub_rule rule) → ⊥) }
+    ensures none { IfNone result (IsNoSubRule (view value.now)) }
 {
     match value.as_str() {
         Some(name) => sub_rule_named(name),

@@ -61,34 +61,31 @@ fn unread_message(alloc: Global, fault: Unread) -> Result<String, AllocError>
     let mut out = String::new(alloc);
     match fault {
         Unread::Derivation => {
-            out.push_str("it is no derivation: an object of `context` and `steps`, both lists")?;
+            out.push_str("it is no object of exactly `context` and `steps`, both lists")?;
         }
         Unread::Entry(entry) => {
-            write!(
-                out,
-                "entry {entry} of the context is no object of `name` and `type`"
-            )?;
+            write!(out, "entry {entry} is no object of a name and a type")?;
         }
         Unread::EntryType(entry) => {
             write!(
                 out,
-                "entry {entry} of the context has no type of at most 4,096 levels"
+                "entry {entry} has an unreadable type, or one of over 4,096 levels"
             )?;
         }
         Unread::Step(step) => {
             write!(
                 out,
-                "step {step} has no object of `from`, `range`, `rule` and `type`, or of `from`, `lower`, `rule` and `upper`"
+                "step {step} is no object of exactly `from`, `range`, `rule` and `type`, or `from`, `lower`, `rule` and `upper`"
             )?;
         }
-        Unread::Rule(step) => write!(out, "step {step} names a rule that there is not")?,
-        Unread::Type(step) => write!(out, "step {step} has no type of at most 4,096 levels")?,
-        Unread::Range(step) => write!(out, "step {step} has a range that is not in the text")?,
+        Unread::Rule(step) => write!(out, "step {step} names no rule of its kind")?,
+        Unread::Type(step) => write!(
+            out,
+            "step {step} has an unreadable type, or one of over 4,096 levels"
+        )?,
+        Unread::Range(step) => write!(out, "step {step} has no range of characters of the text")?,
         Unread::From(step) => {
-            write!(
-                out,
-                "step {step} follows `from` no list of numbers of steps"
-            )?;
+            write!(out, "`from` of step {step} is no list of step numbers")?;
         }
         Unread::Memory => return Err(AllocError),
     }

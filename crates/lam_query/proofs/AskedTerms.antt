@@ -1,4 +1,4 @@
--- A projection free_numbers for a label of the term that comes just before it, whatever its commands see.
+-- A projection asks for a label of the term that comes just before it, whatever its commands see.
 use Rattle.std.proofs.Common.{◌≡◌, ℕ, zero, suc, ◌<◌, arith, true, false, List, [], ◌∷◌, ◌++◌, length, refl, ap, sym, ◌∙◌, subst, Option, Some, None}
 use Rattle.std.proofs.lemmas.List.{append-nil}
 use Rattle.std.proofs.lemmas.List.Quantifiers.{position-Some}
@@ -17,7 +17,7 @@ use Rattle.lam_query.specs.inner.Listed.{IsProjection}
 
 -- ---- terms one behind the other
 
--- if the term is a projection, it free_numbers for a label of the one before it
+-- if the term is a projection, it asks for a label of the one before it
 abbrev Asks : Option PlacedTree → PlacedTree → Type 0
 Asks before t =
     (s : Span) → (term_of t).own ≡ label_at s

@@ -1,4 +1,4 @@
--- One label behind a dot stands for all: with another the same projection free_numbers for that one, of the same term.
+-- One label behind a dot stands for all: with another the same projection asks for that one, of the same term.
 use Rattle.std.proofs.Common.{◌≡◌, ℕ, List, [], Some, None, sym, ap, subst, ◌∙◌}
 use Rattle.std.specs.Prelude.{codes, true}
 use Rattle.std.proofs.lemmas.List.Elements.{All-weaker}
@@ -116,7 +116,7 @@ module _ (text : List ℕ) (tokens : List Lexeme) (o : ℕ) (t : Lexeme) (are : 
         small_without cs (labelled (start_of t) l cs) n l d (changed l)
         (subst (λ ds. IsSmallUpTo ds n d) (one_reading l h) (subst (λ k. IsSmallUpTo h.commands k d) (one_number l h) small))
 
-    -- a label has a type just where this projection has one when it free_numbers for the label
+    -- a label has a type just where this projection has one when it asks for the label
     pub typable : (l : Label) (u : Typ) (d : Dialect) → HasLeast projection l u d → IsTypable tokens o l u d
     typable l u d least = record { projected = projected l; least = subst (IsLeastIn d u) (sym (asks_label l (projected l))) least }
 

@@ -1,4 +1,4 @@
--- OldPieces checked commands no name has a type that is too large: neither an entry of the context, nor what a type name stands for.
+-- Among checked commands no name has a type that is too large: neither an entry of the context, nor what a type name stands for.
 use Rattle.std.proofs.Common.{◌≡◌, ◌≤◌, List, [], ◌∷◌, Bool, true, false, Option, Some, None, map, fold, refl, sym, subst}
 use Rattle.std.specs.Prelude.{if◌then◌else◌}
 use Rattle.std.specs.List.{AllByRecursion}

@@ -1,17 +1,18 @@
-use Rattle.std.proofs.Common.{ap, ◌∙◌, arith}
+use Rattle.std.proofs.Common.{refl, arith}
 use Rattle.std.proofs.lemmas.List.Elements.{All-map}
 use Rattle.std.specs.Option.{IfSome}
-use Rattle.serde_json.specs.View.{view}
 use Rattle.lam_query.specs.Views.{entry_of}
 use Rattle.lam_session.specs.Derivations.{entry_value}
 use Rattle.lam_check.specs.Readable.{IsReadableType}
-use Rattle.lam_check.proofs.ReadValues.{value_there, one_more, one_more_readable, all_read_through}
+use Rattle.lam_check.specs.Unreadable.{IsReadableEntry, IsWrongEntry}
+use Rattle.lam_check.proofs.ReadValues.{one_more, one_more_readable, all_read_through}
+use Rattle.lam_check.proofs.Unreadable.{first_wrong}
 use Rattle.lam_check.proofs.read_derivations.context_in.Goals as goal
 
 pub returns-in-Err-clause-unread : goal.returns-in-Err-clause-unread
-returns-in-Err-clause-unread c = λ other h.
-    let there = value_there entry_value (λ e. IfSome e.type IsReadableType) c.args.values.now h.0 c.loop-i.i c.index-values-i.result (omega arith) h.1 h.2 in
-    c.in-Err.ensures.unread other (there.0, there.1, ap view c.index-values-i.is ∙ there.2)
+returns-in-Err-clause-unread c = λ other.
+    first_wrong IsReadableEntry IsWrongEntry (λ e. entry_value (entry_of e)) (λ e. IfSome (entry_of e).type IsReadableType) (λ e h. (entry_of e, h, refl))
+    c.args.values.now c.loop-i.i c.index-values-i.result c.loop-i.context.items c.in-Err.fault (omega arith) c.index-values-i.is c.loop-i.invariant.read c.loop-i.invariant.readable (c.in-Err.ensures.unread other)
 
 pub returns-clause-read : goal.returns-clause-read
 returns-clause-read c = all_read_through entry_value entry_of c.args.values.now c.loop-i.i c.loop-i.context.items (omega arith) c.loop-i.invariant.read

@@ -1,17 +1,18 @@
-use Rattle.std.proofs.Common.{ap, ◌∙◌, arith}
+use Rattle.std.proofs.Common.{refl, arith}
 use Rattle.std.proofs.lemmas.List.Elements.{All-map}
-use Rattle.serde_json.specs.View.{view}
 use Rattle.lam_query.specs.Views.{step_of}
 use Rattle.lam_session.specs.Derivations.{step_value}
 use Rattle.lam_check.specs.Readable.{IsReadableConclusion}
-use Rattle.lam_check.proofs.ReadValues.{value_there, one_more, one_more_readable, all_read_through}
+use Rattle.lam_check.specs.Unreadable.{IsReadableStep, IsWrongStep}
+use Rattle.lam_check.proofs.ReadValues.{one_more, one_more_readable, all_read_through}
+use Rattle.lam_check.proofs.Unreadable.{first_wrong}
 use Rattle.lam_check.proofs.read_derivations.steps_in.Goals as goal
 
 pub returns-in-Err-clause-unread : goal.returns-in-Err-clause-unread
-returns-in-Err-clause-unread c = λ other h.
+returns-in-Err-clause-unread c = λ other.
     let d = c.args.doc.now in
-    let there = value_there (step_value d.encoding d.text) (λ s. IsReadableConclusion d.text s.conclusion) c.args.values.now h.0 c.loop-i.i c.index-values-i.result (omega arith) h.1 h.2 in
-    c.in-Err.ensures.unread other (there.0, there.1, ap view c.index-values-i.is ∙ there.2)
+    first_wrong (IsReadableStep d.encoding d.text) (IsWrongStep d.encoding d.text) (λ s. step_value d.encoding d.text (step_of s)) (λ s. IsReadableConclusion d.text (step_of s).conclusion) (λ s h. (step_of s, h, refl))
+    c.args.values.now c.loop-i.i c.index-values-i.result c.loop-i.steps.items c.in-Err.fault (omega arith) c.index-values-i.is c.loop-i.invariant.read c.loop-i.invariant.readable (c.in-Err.ensures.unread other)
 
 pub returns-clause-read : goal.returns-clause-read
 returns-clause-read c = all_read_through (step_value c.args.doc.now.encoding c.args.doc.now.text) step_of c.args.values.now c.loop-i.i c.loop-i.steps.items (omega arith) c.loop-i.invariant.read

@@ -1,10 +1,12 @@
 use Rattle.std.proofs.Common.{◌≡◌, Some, ◌∙◌}
 use Rattle.serde_json.specs.View.{view}
-use Rattle.lam_query.specs.Derivations.{Derivation}
 use Rattle.lam_query.specs.Views.{derivation_of}
+use Rattle.lam_text.specs.declared.units.Encoding.TheVariants.{Utf16}
 use Rattle.lam_session.specs.Derivations.{derivation_value}
 use Rattle.lam_check.specs.Readable.{IsReadable}
+use Rattle.lam_check.specs.Unreadable.{IsWrongFor}
 use Rattle.lam_check.proofs.Accepting.{IsProof, in_text, steps_stand, no_proof, none_counted, one_counted, accepted_report, refused_report, unread_report}
+use Rattle.lam_check.proofs.Unreadable.{wrong_for}
 use Rattle.lam_check.proofs.verdicts.verdict.Goals as goal
 
 pub accepted-requires : goal.accepted-requires
@@ -15,11 +17,10 @@ returns-in-Err c =
     let text = c.args.text.now in
     let value = view c.args.value.now in
     let told = c.in_ok-unread_message-in-Err.ensures in
-    let none = in_text (λ e t. (x : Derivation) → IsReadable t x → value ≡ derivation_value e t (Some x) → ⊥) c.in_ok-doc.ensures.encoding c.in_ok-doc.ensures.text
-    (λ x readable is. c.in-Err.ensures.unread told.not_memory (x, readable, is)) in
+    let right = in_text (λ e t. IsWrongFor e t value c.in-Err.fault) c.in_ok-doc.ensures.encoding c.in_ok-doc.ensures.text (c.in-Err.ensures.unread told.not_memory) in
     record {
-      accepted = one_counted text value c.args.dialect c.refused.result (λ proof. none proof.0.derivation proof.1 proof.0.is_value) c.refused.ensures.count;
-      report = unread_report c.args.name.now text value c.args.dialect c.refused.result none c.in-Err.fault told.not_memory c.refused.ensures.count (rw (c.deref.ensures ∙ told.text) at c.refused.ensures.report);
+      accepted = one_counted text value c.args.dialect c.refused.result (λ proof. wrong_for Utf16 text value c.in-Err.fault right proof.0.derivation proof.1 proof.0.is_value) c.refused.ensures.count;
+      report = unread_report c.args.name.now text value c.args.dialect c.refused.result c.in-Err.fault right c.refused.ensures.count (rw (c.deref.ensures ∙ told.text) at c.refused.ensures.report);
     }
 
 pub returns-in-None : goal.returns-in-None
