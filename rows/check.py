@@ -296,6 +296,10 @@ UNREAD = [
     ("a range behind the text", sent((4, {"range": place(9, 0, 4)})), "step 4 has no range of characters of the text"),
     ("a premise that is no number", sent((3, {"from": [1, "2"]})), "`from` of step 3 is no list of step numbers"),
     ("premises that are no list", sent((2, {"from": 0})), "`from` of step 2 is no list of step numbers"),
+    ("a wrong entry after a wrong step", sent((2, {"from": 0}), names=[NAMES[0], 7]), "entry 1 is no object of a name and a type"),
+    ("a step of which nothing is right", sent((4, {"from": 0, "range": 7, "rule": "T-Foo", "type": 7})), "step 4 names no rule of its kind"),
+    ("wrong premises and a wrong range", sent((4, {"from": 0, "range": 7, "type": 7})), "`from` of step 4 is no list of step numbers"),
+    ("a wrong range and a wrong type", sent((4, {"range": 7, "type": 7})), "step 4 has no range of characters of the text"),
 ]
 
 
@@ -413,6 +417,7 @@ CASES = [
     Case("no type", ["--verify", "d"], {"a": CALL, "d": sent((0, {"type": "{x:Nat"}))}, "d: step 0 has an unreadable type, or one of over 4,096 levels\n", 1),
     *(Case(name, ["--verify", "d"], {"a": CALL, "d": told}, f"d: {why}\n", 1) for name, told, why in UNREAD),
     Case("no derivation", ["--verify", "d"], {"a": CALL, "d": line({"derivation": None, "file": "a"})}, "d: it is no object of exactly `context` and `steps`, both lists\n", 1),
+    Case("a file beside its lists", ["--verify", "--of", "a", "d"], {"a": "0", "d": line(dict(STEPS, file="a"))}, "d: it is no object of exactly `context` and `steps`, both lists\n", 1),
     Case("JSON is cut", ["--verify", "d"], {"a": CALL, "d": sent()[:14]}, "d: it is no JSON: EOF while parsing at line 1 column 14\n", 1),
     Case("derivations not in UTF-8", ["--verify", "d"], {"d": b"\xff"}, "", 4, refused("d", "it is not UTF-8 from byte 0 on")),
     Case("a text that is gone", ["--verify", "d"], {"d": sent()}, "", 4, refused("a", "No such file or directory (os error 2)")),
