@@ -52,7 +52,7 @@ first_there d (p ∷ ps) [] n same first = absurd same
 first_there d (p ∷ ps) (q ∷ qs) zero same first = (first.0, same.0 (Some first.0) first.1, first.2)
 first_there d (p ∷ ps) (q ∷ qs) (suc n) same first = (first.0, same.0 first.0 first.1, first.2, first_there d ps qs n same.1 first.3)
 
--- the first ones of two lists, one by one
+-- the first places of two lists have the same least types if each pair of them has
 all_same : (d : Dialect) (n : ℕ) (ps qs : List Place) (default : Place) → n ≤ length ps → n ≤ length qs
     → ((k : ℕ) → k < n → HaveOneLeast d (get_or ps k default) (get_or qs k default)) → AllHaveOneLeast d (take n ps) (take n qs)
 all_same d zero [] [] default le le' same = tt
@@ -162,7 +162,7 @@ module _ (done pre : List CommandTree) (g h : Context) (c : CommandTree) (rest :
       get_or-told place_of More k (tree_in [] 0)
       ∙ ap place_of (sym (ap (λ ts. tree_in ts (before + k)) (terms_append done (c ∷ rest)) ∙ get_or-append-add (document_terms done) More k (tree_in [] 0)))
 
-  -- they have the least types that they have there
+  -- the terms have the same least types there and where the command stands alone
 
   same : (k : ℕ) → k < count → IsSameTerm done pre g h (tree_in (document_terms Whole) (before + k)) (tree_in (document_terms Alone) k) d
   same k lt = same_terms done pre g h c rest d alike k lt

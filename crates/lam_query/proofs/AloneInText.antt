@@ -65,11 +65,11 @@ module _ (done pre : List CommandTree) (g h : Context) (c : CommandTree) (rest :
     pub number_there : (n : ℕ) → place_at (table Alone) o ≡ Some n → place_at (table Whole) o ≡ Some (length (document_terms done) + n)
     number_there n at = place_there ∙ ap (option_map (λ n. length (document_terms done) + n)) at
 
-    -- no term has it
+    -- no term has the offset
     pub no_term_there : place_at (table Alone) o ≡ None → IsHover Whole o None d
     no_term_there at = nothing_around Whole o d (place_there ∙ ap (option_map (λ n. length (document_terms done) + n)) at)
 
-    -- the term that has it has no type
+    -- the term that has the offset has no type
     pub no_type_there : (n : ℕ) → place_at (table Alone) o ≡ Some n → IsLeastAt (term_of (term_alone pre c n)).place.scope (term_of (term_alone pre c n)).place.here None d
         → IsHover Whole o None d
     no_type_there n at none = λ term type typed.

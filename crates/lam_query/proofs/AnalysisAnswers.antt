@@ -24,7 +24,7 @@ use Rattle.lam_query.proofs.OneAnswer.{one_commands}
 use Rattle.lam_query.proofs.RowsInText.{AreInText, in_text}
 use Rattle.lam_query.proofs.SpelledRows.{IsAllSpelled, whole_spelled}
 
--- its rows, where they are in the text
+-- the rows of an analysis, where they are in its text
 abbrev pub rows_in : Analysis → List Row
 rows_in a = placed 0 (rows_of a.rows.items)
 
@@ -34,7 +34,7 @@ text_spelled text a h there = whole_spelled text (rows_in a) there.front (types_
 
 -- ---- faults
 
--- those that tokens and the grammar decide, and behind them those that types decide
+-- the faults that tokens and the grammar decide, and behind them those that types decide
 text_faults : (text : List ℕ) (a : Analysis) (of_types : List Fault) (of_rows found ordered : List Fault) → IsAnalysisOf text a → (there : AreInText text a)
     → AreTypeFaults there.front.commands of_types a.dialect → IsPermutation of_types of_rows → found ≡ all_syntax (rows_in a) ++ of_rows
     → AreInOrder found ordered → AreFaults text ordered a.dialect

@@ -47,7 +47,7 @@ nothing_read text a read piece rows end none = record {
   between = record { nothing_read = read; no_piece = piece };
 }
 
--- ---- a command more
+-- ---- one command more
 
 -- its names were numbered, it was typed, and what it binds was bound
 module _ (c : CommandTree) (row : CommandRow) (old now : Analyst) (numbered : Bound) (sound : IsSound old) (types : IsSoundChecker now.types)
@@ -84,7 +84,7 @@ module _ (c : CommandTree) (row : CommandRow) (old now : Analyst) (numbered : Bo
     numbers = numbers;
   }
 
--- ---- a piece more
+-- ---- one piece more
 
 -- the faults of its tokens and of the grammar
 pub faults_taken : (old ended kept : Reader) (own : List CommandTree) (syntax : List RustFault)

@@ -28,6 +28,6 @@ pub found_of_terms : (cs : List CommandTree) (resolved : Resolved) (typing : Typ
     → statements_of resolved ≡ statements_in cs → IsAnalysis (places_of [] (statements_of resolved)) typing d → IsAnalysis (places_in cs) typing d
 found_of_terms cs resolved typing d are found = subst (λ ps. IsAnalysis ps typing d) (ap (places_of []) are ∙ same_places cs) found
 
--- what stands nowhere is told as the start of a text
+-- the span of what stands nowhere is that of the start of a text
 pub starts_stand : (text : List ℕ) → IsUtf8 text → IsSpanOfText text no_span
 starts_stand text is_text = (IsCharBoundary-start text is_text, IsCharBoundary-start text is_text)

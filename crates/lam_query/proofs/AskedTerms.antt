@@ -23,7 +23,7 @@ Asks before t =
     (s : Span) → (term_of t).own ≡ label_at s
     → (p : PlacedTree) × (l : Label) × (before ≡ Some p) × ((term_of t).place ≡ record { scope = (term_of p).place.scope; here = project (term_of p).place.here l })
 
--- each of the terms does, of which the first comes behind that one
+-- each of these terms does, where the first comes behind `before`
 abbrev AllAsk : Option PlacedTree → List PlacedTree → Type 0
 AllAsk before [] = Unit {0}
 AllAsk before (t ∷ ts) = Asks before t × AllAsk (Some t) ts
@@ -60,7 +60,7 @@ last_asks before (u ∷ ts) p t own h = (h.0, last_asks (Some u) ts p t own h.1)
 no_own : (s : Span) → no_word ≡ label_at s → ⊥
 no_own s is = absurd cc
 
--- a term behind its parts, of which each free_numbers
+-- a term behind its parts, of which each asks
 own_asks : (bs : List Abbreviation) (xs : List (Option Name)) (s : Scope) (r : Span) (n : TermNode) → AllAsk None (terms_in_each (placed_parts bs xs s n))
     → AllAsk None (terms_in (placed_term bs xs s (term_tree r n)))
 own_asks bs xs s r (tree.variable (word x q)) h = (λ v is. absurd cc, tt)

@@ -62,7 +62,7 @@ use Rattle.lam_query.proofs.NoneLarge.{none_first, none_second, none_there}
 
 -- ---- the name that a command binds
 
--- for the commands after it, in front of those that it sees
+-- it is put in front of the names that the command sees
 abbrev name_onto : Option Name → List (Option Name) → List (Option Name)
 name_onto None xs = xs
 name_onto (Some x) xs = Some x ∷ xs
@@ -73,7 +73,7 @@ names_by xs (declaration (word x s) u) = refl
 names_by xs (abbreviation (word x s) u) = refl
 names_by xs (evaluation t) = refl
 
--- with its entry
+-- and its entry in front of theirs
 abbrev entry_onto : Option Name → Option Typ → Context → Context
 entry_onto None entry g = g
 entry_onto (Some x) entry g = entry ∷ g
@@ -84,7 +84,7 @@ context_by g (declaration (word x s) u) entry = refl
 context_by g (abbreviation (word x s) u) entry = refl
 context_by g (evaluation t) entry = refl
 
--- its piece begins with it
+-- the tokens of a command that binds a name begin with it
 tokens_named : (x : Name) {ts : List Lexeme} {c : CommandTree} → Spells ts c → name_bound c ≡ Some x
     → (s : Span) × (others : List Lexeme) × (ts ≡ lexeme kind.Name x s ∷ others)
 tokens_named x (definition_command {ts = ts} {x = y} {y = z} {s = s} {q = q} d) named =
@@ -105,7 +105,7 @@ piece_named piece x tokens c (alone are) spelled named =
     let is = tokens_named x spelled named in
     (is.0, is.1, subst (AreTokensOf piece) is.2 are)
 
--- that of the one command of a piece, if there is one
+-- the name that the one command of a piece binds, if there is one
 abbrev name_of_own : List CommandTree → Option Name
 name_of_own (c ∷ []) = name_bound c
 name_of_own own = None
@@ -154,7 +154,7 @@ tokens_same n piece rest tokens us none none' (at_end are last) (alone are') =
 
 -- ---- what the commands of a piece bind
 
--- a row with these commands has such numbers
+-- the commands of a piece bind a name just where its row has the number of one
 module _ (b : Bound) where
   name_told : (own : List CommandTree) (k : CommandRow) (n : ℕ) → AreItsNumbers b own (Some k) → k.binds ≡ Some (number.Name n)
       → (x : Name) × (name_of_own own ≡ Some x)
@@ -186,14 +186,14 @@ name_after n own others are = ap name_of_own are ∙ by others
     by (c ∷ []) = name_bound_after n c
     by (c ∷ e ∷ cs) = refl
 
--- names behind it
+-- the names behind one piece more
 names_more : (done own : List CommandTree) (tokens : List Lexeme) → IsOwnOf tokens own → names_behind (done ++ own) ≡ name_onto (name_of_own own) (names_behind done)
 names_more done _ tokens (one_command {c = c} is) = names_push done c ∙ names_by (names_behind done) c
 names_more done _ tokens (no_command none) = ap names_behind (append-nil done)
 
 -- ---- entries
 
--- None of the types up to a front is too large, this is the context there, and names mean this by it.
+-- None of the types up to a front is too large, this is the context there, and names mean what it tells.
 record HasContext (f : Front) (g : Context) (d : Dialect) : Type 0 where
   found : List (Option Typ)
   blames : List Blamed
@@ -269,7 +269,7 @@ kept_stands f (c ∷ e ∷ own) k ts d kept = absurd kept
 
 -- ---- the row of a number
 
--- the first of some pieces
+-- the row is that of the first of these pieces
 record IsFirstOf (s : Sight) (pieces : List (List ℕ)) (r : Row) (ts : List Typ) (b : Bound) (d : Dialect) : Type 0 where
   piece : List ℕ
   more : List (List ℕ)

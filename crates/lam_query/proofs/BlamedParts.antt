@@ -60,7 +60,7 @@ all_typed s (numeral x) d typed = tt
 all_typed s (variable n) d typed = tt
 all_typed s (free x) d typed = tt
 
--- as many as the form of the term has
+-- a term has as many parts as its form says
 as_many : (s : Scope) (e : Term) → HasParts e (length (part_places s e))
 as_many s (if_then_else c a b) = refl
 as_many s (succ e) = refl
@@ -123,7 +123,7 @@ told_of s (free x) us d least = refl
 -- ---- what was found of them
 
 module _ (cs : List CommandTree) (found : List (Option Typ)) (d : Dialect) (least : AreLeast (places_in cs) found d) where
-  -- of the term of a number
+  -- the least type of the term of a number
   pub least_numbered : (m : ℕ) → m < length (document_terms cs) → IsLeastAt (place_in cs m).scope (place_in cs m).here (get_or found m None) d
   least_numbered m lt =
       subst (λ (p : Place). IsLeastAt p.scope p.here (get_or found m None) d) (place_told cs m)
@@ -149,7 +149,7 @@ module _ (cs : List CommandTree) (found : List (Option Typ)) (d : Dialect) (leas
     abbrev Here : Place
     Here = place_in cs n
 
-    -- each part of a term has a type that has parts with types
+    -- if the parts of a term have types, one was found of each
     pub parts_found : ArePartsTyped Here.scope Here.here d → AllByRecursion (λ m. get_or found m None ≡ None → ⊥) Numbers
     parts_found typed =
         each_found Numbers (inside_row cs n)

@@ -40,7 +40,7 @@ use Rattle.lam_query.proofs.SizesAlone.{first_is_large}
 same_behind : {A : Type 0} (xs ys zs : List A) → xs ++ ys ≡ xs ++ zs → ys ≡ zs
 same_behind xs ys zs same = sym (drop_at xs ys (length xs) refl) ∙ ap (drop (length xs)) same ∙ drop_at xs zs (length xs) refl
 
--- counted from a number less
+-- the same blames, with numbers that are less by k
 abbrev counted_back : ℕ → List Blamed → List Blamed
 counted_back k bs = map (λ b. record { number = b.number - k; code = b.code }) bs
 

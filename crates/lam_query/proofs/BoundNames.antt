@@ -1,4 +1,4 @@
--- What commands have bound stays as the table of types grows; what one command more binds is put to it.
+-- What commands have bound stays as the table of types grows; what one command more binds is added to it.
 use Rattle.std.proofs.Common.{◌≡◌, List, Bool, true, false, Option, Some, None, refl, ap, sym, subst, ◌∙◌}
 use Rattle.std.specs.Prelude.{if◌then◌else◌, IfSome}
 use Rattle.std.specs.Option.{option_map}
@@ -59,7 +59,7 @@ same_stand ts old now same stand = record {
   type_names = λ x. subst (λ o. IfSome o (StandsIfAny ts)) (sym (same x).1) (stand.type_names x);
 }
 
--- what is set among them is set among those before
+-- a command binds the same behind names that mean the same
 pub same_after : (c : CommandTree) (number : Option TyNo) (old numbered now : Bound) → MeanTheSame old numbered → IsBoundAfter c number numbered now → IsBoundAfter c number old now
 same_after c number old numbered now same after = record {
   names = λ x. after.names x ∙ ap (λ o. if binds (name_bound c) x then Some number else o) (same x).0;

@@ -35,7 +35,7 @@ read_last more ahead s text rest a is = subst (λ b. IsReadOn b ahead s text res
 last_part : (xs ys : List ℕ) → drop (length (xs ++ ys) - length ys) (xs ++ ys) ≡ ys
 last_part xs ys = drop_at xs ys (length (xs ++ ys) - length ys) (omega (arith, length-append xs ys))
 
--- the last bytes, further on
+-- the last `left` bytes of a text are the last of its last `common` bytes
 further : (xs : List ℕ) (common left : ℕ) → common ≤ length xs → left ≤ common → drop (length xs - left) xs ≡ drop (common - left) (drop (length xs - common) xs)
 further xs common left inside le =
     let on : length xs - left ≡ length xs - common + (common - left) = omega arith in
@@ -68,7 +68,7 @@ lengths_behind (suc n) (r ∷ rows) (p ∷ pieces) lengths = lengths_behind n ro
 pub joined_split : (n : ℕ) (pieces : List (List ℕ)) → joined pieces ≡ joined (take n pieces) ++ joined (drop n pieces)
 joined_split n pieces = ap joined (sym (take-append-drop n pieces)) ∙ joined_append (take n pieces) (drop n pieces)
 
--- the pieces but the last are ended, and so are the first of all that are no more
+-- all pieces but the last are ended, and so are any first ones without the last
 pub ended_within : (ended : List (List ℕ)) (last : List ℕ) (n : ℕ) → n ≤ length ended → All IsEnded ended → All IsEnded (take n (ended ++ last ∷ []))
 ended_within [] last zero le h = All-nil IsEnded
 ended_within [] last (suc n) le h = absurd (omega (arith, le))
@@ -236,7 +236,7 @@ module _ {old new : List ℕ} {a : Analysis} {front : FrontRows} {x : Analyst} (
   pub begun_stands : AllStand (types_in a.types) x.bound
   begun_stands = h.stand First front_sight (types_in a.types) a.dialect front_rows
 
-  -- they are read of the new text
+  -- in the new text they count as read
   pub begun_read : IsReadTo ahead front_sight new rest_in x
   begun_read = record {
     ahead_is_text = joined_is_text outset First (take front.count (rows_of a.rows.items)) front_sight (types_in a.types) a.bound a.dialect front_split.1;
@@ -266,7 +266,7 @@ module _ {old new : List ℕ} {a : Analysis} {front : FrontRows} {x : Analyst} (
   begun_met b rows common items left is both next now met =
       met ahead front_sight rest_in old Pieces begun_read (old_pieces h.of new b rows common items left is both)
 
-  -- where it went on, or did not
+  -- there is such a piece, or all of the new text was read
   module _ (next : ℕ) (now : Analyst) (met : IsMet ahead front_sight new Pieces next now) where
     abbrev Some : Type 0
     Some = (next < length Pieces) × IsReadTo ahead front_sight new (joined (drop next Pieces)) now

@@ -66,7 +66,7 @@ terms_joined bs xs s (c ∷ done) more =
     ap (λ ts. command_terms bs xs s c ++ ts) (terms_joined (abbreviations_after bs c) (names_after xs c) (scope_after bs xs s c) done more)
     ∙ sym (append_assoc (command_terms bs xs s c) _ _)
 
--- those of commands and the ones after them
+-- the terms of commands and of the ones after them
 pub terms_append : (done more : List CommandTree)
     → document_terms (done ++ more) ≡ document_terms done ++ commands_terms (abbreviations_behind done) (names_behind done) (scope_behind done) more
 terms_append done more = terms_joined [] [] [] done more

@@ -7,7 +7,7 @@ use Rattle.lam_query.specs.inner.Ends.{IsLeftOf}
 use Rattle.lam_query.specs.inner.Kept.{Row, rows_of, bytes_of}
 use Rattle.lam_query.proofs.RowBytes.{bytes_fewer, many}
 
--- no byte from behind
+-- the last 0 bytes are none
 no_end : (xs : List ℕ) → drop (length xs - 0) xs ≡ []
 no_end xs = drop_all (length xs - 0) xs (omega arith)
 

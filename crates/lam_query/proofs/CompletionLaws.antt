@@ -26,7 +26,7 @@ use Rattle.lam_query.proofs.Projected.{one_label, none_projected, small_in, smal
 use Rattle.lam_query.proofs.SizeLaws.{small_or_not, small_up_to_or_not}
 use Rattle.lam_query.proofs.SomeAnswers.{number_wf}
 
--- ---- one
+-- ---- at most one list
 
 -- a projection's dot with one label is one with any other
 pub projected_with_other : (text : List ℕ) (tokens : List Lexeme) (o : ℕ) (l m : Label) → AreTokensOf text tokens → IsProjected tokens o l → IsProjected tokens o m
@@ -83,7 +83,7 @@ one_list_of_completions text o items others d h k =
     let there = subst (λ ts. AreItems k.commands ts o others d) tokens k.listed in
     one_listed text h.tokens h.commands o items others d h.are_tokens h.listed (subst (λ cs. AreItems cs h.tokens o others d) commands there)
 
--- ---- some
+-- ---- some list
 
 module _ (text : List ℕ) (tokens : List Lexeme) (commands : List CommandTree) (o : ℕ) (d : Dialect) (are : AreTokensOf text tokens) where
   abbrev SomeItems : Type 0

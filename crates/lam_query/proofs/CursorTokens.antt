@@ -12,7 +12,7 @@ abbrev last_dot : (before : Option ℕ) → List Lexeme → Option ℕ
 last_dot before [] = before
 last_dot before (t ∷ ts) = last_dot (option_map start_of (if_dot t)) ts
 
--- the byte of the dot before the cursor, where these tokens are left and the last one in front of the cursor that was passed, if it was a dot, begins there
+-- the byte of the dot before the cursor, where these tokens are left and the last one in front of the cursor that was passed, if it was a dot, begins at `before`
 abbrev pub dot_from : (before : Option ℕ) → ℕ → List Lexeme → Option ℕ
 dot_from before o left = if list_any (is_around o) left then None else last_dot before (filter (is_in_front o) left)
 
@@ -32,7 +32,7 @@ dot_told o all found is = sym is ∙ by (list_any (is_around o) all) (filter (is
 pub around_passed : (before : Option ℕ) (o : ℕ) (t : Lexeme) (tokens left : List Lexeme) → tokens ≡ t ∷ left → is_around o t ≡ true → dot_from before o tokens ≡ None
 around_passed before o t tokens left first around = rw (first, around) refl
 
--- another: the dot that it is, if it is in front
+-- another token: its byte, if it is a dot in front of the cursor
 abbrev pub dot_behind : (before : Option ℕ) → ℕ → Lexeme → Option ℕ
 dot_behind before o t = if is_in_front o t then option_map start_of (if_dot t) else before
 
@@ -50,7 +50,7 @@ next_there before next o t front is = rw front is
 pub next_kept : (before next : Option ℕ) (o : ℕ) (t : Lexeme) → is_in_front o t ≡ false → next ≡ before → next ≡ dot_behind before o t
 next_kept before next o t front is = rw front is
 
--- the byte behind it
+-- the byte behind the dot
 pub dot_fits : (t : Lexeme) (limit : ℕ) → start_of t + 1 < limit → IfSome (option_map start_of (if_dot t)) (λ start. start + 1 < limit)
 dot_fits (lexeme kind.Dot x s) limit fits = fits
 dot_fits t limit fits = tt

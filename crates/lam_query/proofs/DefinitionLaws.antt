@@ -1,4 +1,4 @@
--- Each offset of a text has one definition and one list of references, of which none may be there.
+-- Each offset of a text has one definition and one list of references, either of which may be none.
 use Rattle.std.proofs.Common.{◌≡◌, ℕ, List, Bool, Option, sym, refl, ◌∙◌}
 use Rattle.std.specs.Option.{option_map}
 use Rattle.lam_token.specs.declared.span.Span.{Span}

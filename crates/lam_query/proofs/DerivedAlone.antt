@@ -33,7 +33,7 @@ use Rattle.lam_query.specs.inner.StandIns.{stand_ins, IsAlone}
 use Rattle.lam_query.specs.inner.Typings.{AreFoundOf, AreTypesOf}
 use Rattle.lam_query.proofs.DerivedByPiece.{size_alone, nowhere_derived, untyped_derived, typed_derived, row_stands}
 
--- the entries of a context in which first these binders were put, and then those
+-- the entries of a context into which first these binders were put, and then those
 pub two_pushed : (none first all : List (String Global × Option Ty)) (ts us is_ts is_us : List Typ) (outer inner is_outer is_inner : List SeenBinder)
     → none ≡ [] → ts ≡ is_ts → us ≡ is_us → outer ≡ is_outer → inner ≡ is_inner
     → map entry_of first ≡ map entry_of none ++ map (entry_shown ts) outer → map entry_of all ≡ map entry_of first ++ map (entry_shown us) inner

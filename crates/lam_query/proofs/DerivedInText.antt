@@ -42,14 +42,14 @@ names_shown ts bs = map-map (λ e. e.name) (entry_shown ts) bs ∙ sym (map-map 
 types_shown : (ts : List Typ) (bs : List SeenBinder) → map (λ e. e.type) (map (entry_shown ts) bs) ≡ entries_seen ts bs
 types_shown ts bs = map-map (λ e. e.type) (entry_shown ts) bs
 
--- what is left of a list, turned, without its outer part
+-- what is left of a reversed list without its outer part
 inner_left : {A : Type 0} (own outer : List A) (n : ℕ) → n ≡ length outer → drop n (reverse (own ++ outer)) ≡ reverse own
 inner_left own outer n is =
     ap (drop n) (reverse-append own outer)
     ∙ ap (λ k. drop k (reverse outer ++ reverse own)) (is ∙ sym (length-reverse outer))
     ∙ drop-append_seam (reverse outer) (reverse own)
 
--- turned back
+-- reversed back
 turned_back : {A : Type 0} (xs ys : List A) → xs ≡ reverse ys → ys ≡ reverse xs
 turned_back xs ys is = sym (reverse-reverse ys) ∙ ap reverse (sym is)
 

@@ -56,7 +56,7 @@ none_set : (ts : List Typ) (m : Meanings) (b : Option Name) (entry : Option TyNo
 none_set ts m b entry look old now none before same x k at =
     ap (option_map (answer ts)) (same k) ∙ before x k at ∙ ap (λ c. with_entry c (answer ts entry) look x) (sym none)
 
--- it is the name that is bound, or it is another
+-- a name is the one that is bound, or it is another
 bound_or_not : (o : Option NameNo) (name : NameNo) → (o ≡ Some name) ⊎ (o ≡ Some name → ⊥)
 bound_or_not None name = inr (λ e. cc)
 bound_or_not (Some (number.Name n)) (number.Name k) = by (eqb_tells n k)

@@ -41,7 +41,7 @@ module _ (Q : Span → Type 0) (o : ℕ) (none : (s : Span) → Q s → has o s 
       position_from-zero (is_over o) (table commands).places
       ∙ no_row 0 (table commands).places (in_commands_rows Q [] [] 0 0 0 commands there)
 
-  -- where it spreads, so that each place in the commands of tokens has it if these do
+  -- where Q spreads, so that it holds of each place in the commands of tokens if it holds of these
   nowhere_in_tokens : Spreads Q → (tokens : List Lexeme) (commands : List CommandTree)
       → InTokens Q tokens → AreCommandsOf (pieces_of tokens) commands → place_at (table commands) o ≡ None
   nowhere_in_tokens spreads tokens commands there are =

@@ -26,7 +26,7 @@ use Rattle.lam_query.specs.inner.Entered.{entered_first, entered, names_onto, en
 use Rattle.lam_query.specs.inner.PieceRows.{AreFreeNumbers}
 use Rattle.lam_query.proofs.EachOnce.{once_there}
 
--- the name of that index
+-- the name at an index
 abbrev pub name_at : List (Bor (List ℕ)) → ℕ → Bor (List ℕ) → Name
 name_at names i d = (get_or names i d).now
 

@@ -45,7 +45,7 @@ use Rattle.lam_query.proofs.StandInsSeen.{stand_ins_seen}
 
 -- ---- faults of which nothing is told
 
--- those of written types have these codes
+-- those of written types are explained: they are of no term
 written_explained : (commands : List CommandTree) (d : Dialect) (fs : List TypeFault) → AllByRecursion (IsExplained commands d) (map unexplained (map written_fault fs))
 written_explained commands d [] = tt
 written_explained commands d (UnboundTypeName s ∷ fs) = (of_no_term (6, omega arith, refl) refl, written_explained commands d fs)
@@ -112,7 +112,7 @@ module _ (done : List CommandTree) (g : Context) (found : List (Option Typ)) (bl
   pub small_alone : (r : Span) → IsSizeFault Alone r d → ⊥
   small_alone r fault = no_fault_alone done (stand_ins s c) g Entries c d seen _ _ _ more.checked r fault
 
-  -- the term of a number of its own
+  -- one of its own terms that is to blame
   module _ (small : IsSmall Commands d) where
     one_told : (b : Blamed) (e : ExplainedFault) → b.number < length (table (c ∷ [])).places
         → IsBlameOf 0 (places_in Whole) d (record { number = b.number + length found; code = b.code })

@@ -47,7 +47,7 @@ explained_pushed n fs i e f lt found more all code span none pushed so_far fit =
 
 -- ---- of terms that are to blame
 
--- those so far are added, and with what is told of the others all are told of
+-- what is told of those so far was added, and with what is told of the others it is told of all
 pub record AreToldSoFar (scopes : Scopes) (types : Types) (blames : List Blame) (i : ℕ) (old now : List ExplainedFault) (commands : List CommandTree) (d : Dialect) : Type 0 where
   pub added : List ExplainedFault
   pub are : now ≡ old ++ added

@@ -79,7 +79,7 @@ empty_list (x ∷ xs) none = absurd (omega (arith, none))
 
 module _ (a : Analysis) (p : PieceAt) (e : Entries) (row default : RustRow) (is : row ≡ get_or a.rows.items p.number default)
     (faults : List RustFault) (are : map fault_of faults ≡ faults_found (found_in (row_of row))) (small : a.row_faults.large ≡ None) where
-  -- they were added
+  -- the faults of the piece were added
   abbrev pub AreAddedFrom : (old now : List ExplainedFault) → Type 0
   AreAddedFrom old now = (text : List ℕ) (commands : List CommandTree) (h : AreEntriesAround text a p e) → IsAnalysisOf text a → AreCommandsOfText text commands
       → AreAdded commands (faults_found (found_in h.here.around.row)) old now a.dialect

@@ -66,7 +66,7 @@ some_there s (p ∷ ended) last (r ∷ rows) behind ts b d (suc i) e are all lt 
 
 -- ---- the next piece
 
--- this is known in front of the piece of a number
+-- what is known in front of the piece with this number
 pub record AreExplainedUpTo (commands : List CommandTree) (rows : List RustRow) (number start : ℕ) (old now : List ExplainedFault) (d : Dialect) : Type 0 where
   pub so_far : List Fault
   pub divides : all_faults (placed 0 (rows_of rows)) ≡ so_far ++ all_faults (placed start (rows_of (drop number rows)))

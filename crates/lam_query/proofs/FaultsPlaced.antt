@@ -11,7 +11,7 @@ use Rattle.lam_query.specs.Views.{fault_of}
 use Rattle.lam_query.specs.inner.Kept.{Found, written_too_large, term_too_large, typed, CommandRow, Row, row_of, rows_of, found_in, faults_found, span_after, fault_after, found_after, command_row_after, row_after, placed, Fits, AllFit}
 use Rattle.lam_query.proofs.RowsPlaced.{next_row}
 
--- one of the faults that fit
+-- if all faults fit, so does one of them
 pub fault_fits : (n : ℕ) (fs : List RustFault) (i : ℕ) (e : RustFault) → AllFit (map (λ f. fault_after n (fault_of f)) fs) → i < length fs
     → Fits (span_after n (get_or fs i e).span)
 fault_fits n fs i e all lt =
@@ -34,7 +34,7 @@ fault_pushed n fs i e f lt found more all code span pushed so_far fit =
     ∙ ap (λ fs. map fault_of found ++ map (λ f. fault_after n (fault_of f)) fs) (sym (drop_more fs i e lt))
     ∙ so_far fit
 
--- those of two lists that fit
+-- if the faults of two lists fit, so do those of each
 pub fit_before : (front back : List Fault) → AllFit (front ++ back) → AllFit front
 fit_before front back fit =
     subst AllFit (take_at front back (length front) refl) (All-take (λ f. Fits f.span) (length front) (front ++ back) fit)

@@ -1,4 +1,4 @@
--- Where the first type is that is too large, sought row after row.
+-- Where the first type that is too large is, sought row after row.
 use Rattle.std.proofs.Common.{◌≡◌, ℕ, ◌+◌, ◌<◌, List, drop, length, get_or, ◌∷◌, Option, Some, None, refl, sym, ap, ◌∙◌, arith}
 use Rattle.std.specs.Option.{option_map, option_or}
 use Rattle.lam_token.specs.declared.span.Span.{Span}

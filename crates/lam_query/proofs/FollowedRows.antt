@@ -55,7 +55,7 @@ found_elsewhere names types others other_types c ts f d same same_types is = rec
   });
 }
 
--- to all that the commands take from outside the same is given in both sights
+-- both sights give the same to all that the commands take from outside
 abbrev pub AgreeFor : List CommandTree → Sight → Sight → Type 0
 AgreeFor [] s z = Unit {0}
 AgreeFor (c ∷ own) s z = AgreeOn (free_in_command c) s.names z.names × AgreeOn (free_type_names_in_command c) s.types z.types

@@ -81,7 +81,7 @@ none_in_parts f (s ∷ front) r behind none =
     let rest = none_in_parts f front r behind both.1 in
     (ap (λ x. option_or x (first_in f front)) both.0 ∙ rest.0, rest.1)
 
--- a row among others: none in front of it, and none of its own
+-- a row among others: no type in front of it is too large, and none of its own
 record IsSmallAmong (front : List Row) (r : Row) : Type 0 where
   ahead : first_large front ≡ None
   written : large_written_type (found_in r) ≡ None
@@ -122,7 +122,7 @@ some_type (written_too_large s) none written term = absurd cc
 some_type (term_too_large s) none written term = absurd cc
 some_type (typed t) none written term = absurd cc
 
--- without types it is none
+-- a piece without types is no command, where none is too large
 kept_none : (names types : Lookup) (own : List CommandTree) (ts : List Typ) (r : Option CommandRow) (d : Dialect)
     → IsKeptOf names types own ts r d → types_of_found (option_map (λ c. c.found) r) ≡ None
     → large_written_type (option_map (λ c. c.found) r) ≡ None → large_term (option_map (λ c. c.found) r) ≡ None → own ≡ []
@@ -196,7 +196,7 @@ large_shown text a o h some = by a.row_faults.large refl some
 
 -- ---- by the piece
 
--- types stay where a row is placed
+-- types stay as they are where a row is placed
 
 types_of_placed : (n : ℕ) (f : Option Found) → types_of_found (option_map (found_after n) f) ≡ option_map (found_types_after n) (types_of_found f)
 types_of_placed n None = refl
@@ -373,7 +373,7 @@ module _ (text : List ℕ) (a : Analysis) (o : ℕ) (p : PieceAt) (h : IsAnalysi
 
 -- ---- in a command
 
--- the type that was found of the term at a byte, and that its number stands
+-- the type that was found of the term at a byte, and that its number stands for one
 module _ (ts : List Typ) (types : List (Option TyNo)) (c : CommandTree) (o n : ℕ) (number e : Option TyNo) (stand : AllStandIn ts types)
     (inside : length (table (c ∷ [])).places ≤ length types) (at : place_at (table (c ∷ [])) o ≡ Some n) (is : get_or types n e ≡ number) where
   within : n < length types

@@ -1,4 +1,4 @@
--- The piece round an offset among the tokens and the commands of its text.
+-- The piece around an offset among the tokens and the commands of its text.
 use Rattle.std.proofs.Common.{◌≡◌, ℕ, ◌+◌, ◌<◌, ◌≤◌, true, List, ◌∷◌, [], ◌++◌, None}
 use Rattle.std.specs.List.{AllByRecursion}
 use Rattle.std.specs.Option.{option_map}
@@ -13,8 +13,8 @@ use Rattle.lam_query.specs.Completions.{is_in_front, is_behind}
 use Rattle.lam_query.specs.inner.Around.{IsPieceAround, first_term}
 use Rattle.lam_query.specs.inner.OnePiece.{EndInSemicolon, BeginWithSemicolon, HaveNoSemicolon, IsOwnOf}
 
--- The tokens of the text are those before the piece, the piece's own and those after it; so it is with its commands. Of the offset all tokens before the piece are in front,
--- and all after it behind. With other tokens in the piece that have no semicolon the text has their command in its place. A byte of a token of the piece begins no other token.
+-- The tokens of the text are those before the piece, the piece's own and those after it, and so it is with its commands. All tokens before the piece are in front of the
+-- offset, and all after it behind. With other tokens in the piece, none of them a semicolon, their command takes the place of the piece's own in the text.
 pub record IsInText {text : List ℕ} {offset : ℕ} {a : Analysis} {p : PieceAt} (here : IsPieceAround text offset a p) (tokens : List Lexeme) (commands : List CommandTree) : Type 0 where
   pub before : List Lexeme
   pub after : List Lexeme
@@ -27,7 +27,7 @@ pub record IsInText {text : List ℕ} {offset : ℕ} {a : Analysis} {p : PieceAt
   pub are : commands ≡ here.around.front.commands ++ (here.around.own ++ rest)
   pub replaced : (others : List Lexeme) (own : List CommandTree) → HaveNoSemicolon others → IsOwnOf others own
       → AreCommandsOf (pieces_of (before ++ (others ++ after))) (here.around.front.commands ++ (own ++ rest))
-  -- of the commands of the text, with this one in the place of the piece's own, the variable and the projection whose token begins in the piece are its own
+  -- in the commands of the text, with this one in place of the piece's own, the variable and the projection whose token begins in the piece are its own
   pub variable_there : (t : Lexeme) (c : CommandTree) → (others : List Lexeme) → HaveNoSemicolon others → IsOwnOf others (c ∷ [])
       → p.start ≤ start_of t → AllByRecursion (λ u. start_of t < start_of u) after
       → variable_at (start_of t) (here.around.front.commands ++ (c ∷ rest)) ≡ option_map (λ n. first_term here + n) (variable_at (start_of t) (c ∷ []))

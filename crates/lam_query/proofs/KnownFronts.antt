@@ -28,7 +28,7 @@ use Rattle.lam_query.proofs.Meanings.{type_after}
 
 -- ---- what is known up to a front
 
--- the type names mean what the commands give them to mean
+-- type names mean what they mean behind these commands
 abbrev pub AreTypeNames : List CommandTree → Lookup → Type 0
 AreTypeNames done types = (x : Name) → types x ≡ types_of (abbreviations_behind done) x
 
@@ -104,7 +104,7 @@ none_binding o found bound none x named = let clash : None ≡ Some x = sym none
 
 -- ---- a piece that is no command
 
--- a row, with this of its command
+-- a row, with this kept of its command
 abbrev pub with_command : Row → Option CommandRow → Row
 with_command r command = record r { command = command }
 

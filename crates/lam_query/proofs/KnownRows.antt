@@ -22,7 +22,7 @@ use Rattle.lam_query.proofs.OneMoreRow.{row_more}
 
 -- ---- row after row
 
--- the same is known of the same
+-- the same is known of equal rows and spans
 same_known : (f : Front) (rows others : List Row) (ts : List Typ) (w v t u : Option Span) (d : Dialect) → rows ≡ others → w ≡ v → t ≡ u
     → IsKnownBy f rows ts w t d → IsKnownBy f others ts v u d
 same_known f rows others ts w v t u d same written term known =

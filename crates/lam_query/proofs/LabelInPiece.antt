@@ -158,14 +158,14 @@ module _ (o : ℕ) (front own behind : List Lexeme) (some : AreSome (front ++ (o
       or_false true = refl
       or_false false = refl
 
-  -- it is that of the piece
+  -- the dot before the cursor is the one among the tokens of the piece
   pub dot_within : EndInSemicolon front → dot_before o (front ++ (own ++ behind)) ≡ dot_before o own
   dot_within ends =
       (λ i. found_by (arounds i) (fronts i))
       ∙ ap (λ p. if list_any (is_around o) own then None else option_and_then if_dot p) (last_append None front (filter (is_in_front o) own))
       ∙ ap (λ d. if list_any (is_around o) own then None else d) (last_dot (last_or None front) None (filter (is_in_front o) own) (ends_without front ends) refl)
 
-  -- and the label comes among those of the piece
+  -- and the label comes among these
   pub label_within : (t : Lexeme) (l : Label) → with_label o t l (front ++ (own ++ behind)) ≡ front ++ (with_label o t l own ++ behind)
   label_within t l =
       let name = lexeme kind.Name l (record { start = start_of t; end = start_of t + 1 }) in
@@ -243,7 +243,7 @@ last_of : (P : Lexeme → Type 0) (u : Lexeme) (ts : List Lexeme) → AllByRecur
 last_of P u [] h t is = let e : u ≡ t = cc in subst P e h.0
 last_of P u (v ∷ ts) h t is = last_of P v ts h.1 t is
 
--- Of the tokens of a text those in front of the cursor, the piece's own and those behind the cursor are divided in one way, and the semicolon of the piece stands behind its own in another.
+-- The tokens of a text are divided in two ways: into those in front of the cursor, the piece's own and those behind it; and around the piece's own and its semicolon.
 module _ (o : ℕ) (front own behind others more : List Lexeme) (t : Lexeme) (semicolon : is_semicolon t ≡ true) (goes_on : HaveNoSemicolon own)
     (some : AreSome (front ++ (own ++ behind))) (in_front : Passes (is_in_front o) front) (are_behind : Passes (is_behind o) behind)
     (same : front ++ (own ++ behind) ≡ others ++ (own ++ t ∷ more)) where

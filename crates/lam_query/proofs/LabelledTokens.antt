@@ -206,7 +206,7 @@ others_kept : (o : ℕ) (l : Label) (ts : List Lexeme) → AllByRecursion (IsEls
 others_kept o l [] h = refl
 others_kept o l (t ∷ ts) h = ap (λ u. u ∷ relabelled o l ts) (letters_kept o l t h.0) ∙ ap (λ us. t ∷ us) (others_kept o l ts h.1)
 
--- the dot is no name, and the others in front of it begin there
+-- the dot is no name, and the others in front of the cursor begin in front of the dot
 front_elsewhere : (low high : ℕ) (ts : List Lexeme) (t : Lexeme) → TokensStand low ts high → last_or None ts ≡ Some t → kind_of t ≡ kind.Dot → AllByRecursion (IsElsewhere (start_of t)) ts
 front_elsewhere low high [] t h is dot = tt
 front_elsewhere low high (lexeme k x s ∷ []) t h is dot = (λ name same. let e : t ≡ lexeme k x s = cc in let both : kind.Name ≡ kind.Dot = sym name ∙ sym (ap kind_of e) ∙ dot in absurd cc, tt)
@@ -241,7 +241,7 @@ label_relabelled o tokens t k l a =
 command_relabelled : (o : ℕ) (l : Label) (p : List Lexeme) (c : CommandTree) → IsCommandOf p c → IsCommandOf (relabelled o l p) (respelled_command (λ p. p) (labelling o l) c)
 command_relabelled o l p c is = record { taken = (taken_respelled (λ q. q) (labelling o l) p).1 is.taken; spelled = command_is_respelled (λ q. q) (labelling o l) p c is.spelled }
 
--- just where it was one, if its own letters come back
+-- pieces are commands with them just where they were before, if their own letters come back
 commands_relabelled : (o : ℕ) (k l : Label) (ps : List (List Lexeme)) (cs : List CommandTree) → map (relabelled o k) (map (relabelled o l) ps) ≡ ps → AreCommandsOf ps cs → AreCommandsOf (map (relabelled o l) ps) (labelled o l cs)
 commands_relabelled o k l [] cs back are = ap (labelled o l) are
 commands_relabelled o k l (p ∷ ps) cs back (inl are) =

@@ -76,7 +76,7 @@ after_none bs (declaration w u) none = refl
 after_none bs (tree.abbreviation (word x s) u) none = absurd cc
 after_none bs (evaluation t) none = refl
 
--- as those that have a term
+-- a command that has a term is one of these
 term_none : (c : CommandTree) (n : ℕ) → n < length (document_terms (c ∷ [])) → type_name_bound c ≡ None
 term_none (definition (word x s) t) n lt = refl
 term_none (declaration (word x s) u) n lt = refl

@@ -131,7 +131,7 @@ further_in R (p ∷ ps) (q ∷ qs) xs ys n long h = inl (further_in R ps qs xs y
 further_in R [] (q ∷ qs) xs ys n long h = absurd (omega arith)
 further_in R (p ∷ ps) [] xs ys n long h = absurd (omega arith)
 
--- behind those that are before it, which are the elements of the other lists
+-- the first one of two lists that are outermost first, behind others for which the relation holds, further on by their number
 outward : {A B : Type 0} (R : A → B → Type 0) (us : List A) (vs : List B) (xs : List A) (ys : List B) (n : ℕ) → AllZip R us vs → AllZip R (take n xs) (take n ys) → length xs ≡ length ys → n < length xs
     → ((x : A) (y : B) → R (get_or xs n x) (get_or ys n y) → ⊥) → FirstWrong R (reverse xs ++ us) (reverse ys ++ vs) (n + length us)
 outward R us vs [] ys n so_far before long inside not_there = absurd (omega arith)

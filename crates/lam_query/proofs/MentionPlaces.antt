@@ -10,7 +10,7 @@ use Rattle.lam_scope.specs.Mentions.{Binder, seen_of, token_bound_to, Mention, u
 use Rattle.lam_scope.proofs.EveryElement.{every_append}
 use Rattle.lam_query.proofs.TreePlaces.{InBound, InType, InTypeNode, InTypeFields, InTerm, InNode, InFields, InCommand, InCommands}
 
--- Mentions whose tokens Q holds of, and whose binders' tokens too; and binders that are seen.
+-- Q holds of the tokens of mentions and of those of their binders; and of those of the binders that are seen.
 
 abbrev InToken : (Span → Type 0) → Option Span → Type 0
 InToken Q None = Unit {0}

@@ -15,7 +15,7 @@ use Rattle.std.specs.Option.{option_map}
 use Rattle.lam_query.specs.Mismatches.{Mismatch, expected, found, in_application, in_fix}
 use Rattle.lam_query.specs.inner.Explained.{mismatch_in, HasParts}
 
--- so many numbers as the form has parts
+-- as many numbers as the form has parts
 
 counted : (e f : Term) (n : ℕ) → e ≡ f → HasParts e n → HasParts f n
 counted e f n is has = subst (λ t. HasParts t n) is has

@@ -47,7 +47,7 @@ apart n (x ∷ front) top (proof_first p ps) e =
 
 -- ---- the last steps of the proofs so far, after each step
 
--- without the last elements, if they are these
+-- a list without its last elements, if they are these
 abbrev without : List ℕ → List ℕ → Option (List ℕ)
 without xs ys = if bytes_eq ys (drop (length xs - length ys) xs) then Some (take (length xs - length ys) xs) else None
 

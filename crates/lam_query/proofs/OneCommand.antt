@@ -33,7 +33,7 @@ one_front (x ∷ ts) us (y ∷ vs) ws t v none none' is is' same =
 
 -- ---- the tokens that were read of the piece
 
--- a token more of all was read
+-- one more of all the tokens was read
 pub read_more : (all before now left behind : List Lexeme) (t : Lexeme) → all ≡ before ++ left → left ≡ t ∷ behind → now ≡ before ++ t ∷ [] → all ≡ now ++ behind
 read_more all before now left behind t are_all first pushed =
     are_all ∙ ap (λ ts. before ++ ts) first ∙ sym (append_assoc before (t ∷ []) behind) ∙ ap (λ ts. ts ++ behind) (sym pushed)

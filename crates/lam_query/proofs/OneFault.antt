@@ -193,7 +193,7 @@ in_a_text text x d (faults.Entry n) h = in_text h
 in_a_text text x d (faults.Step n) h = in_text h
 in_a_text text x d (faults.Range n) h = in_text h
 
--- what some step has
+-- a list with a step at some index is not empty
 not_empty_inside : {A : Type 0} (steps : List Step) (n : ℕ) → steps ≡ [] → n < length steps → A
 not_empty_inside steps n none inside = let empty = ap length none in absurd (omega (arith, empty))
 
@@ -208,7 +208,7 @@ not_empty_deep steps none deep = go deep.chain deep.long (subst (λ ss. IsChain 
 not_empty_one : {A : Type 0} (steps : List Step) → steps ≡ [] → AreOfOneProof steps → A
 not_empty_one steps none one = never_empty steps one.make.whole one.make.are_steps (ap length none)
 
--- what steps of one proof are not
+-- no step of one proof is misplaced
 misplaced_of_one : {A : Type 0} (steps : List Step) (n : ℕ) → IsFirstMisplaced steps n → AreOfOneProof steps → A
 misplaced_of_one steps n h one = one_is_placed steps one.make.whole n one.make.are_steps h
 

@@ -54,7 +54,7 @@ in_one Q p h = every_append (HasIn Q) (terms_in p) [] h tt
 in_two : (Q : Span → Type 0) (p q : PlacedTree) → HaveIn Q (terms_in p) → HaveIn Q (terms_in q) → HaveIn Q (terms_in_each (two_parts p q))
 in_two Q p q h k = every_append (HasIn Q) (terms_in p) (terms_in_each (one_part q)) h (in_one Q q k)
 
--- a letrec's fix has no word, and its function none
+-- a letrec's fix has no word, and neither has its function
 in_fix : (Q : Span → Type 0) (bs : List Abbreviation) (xs : List (Option Name)) (s : Scope) (w : tree.TypeTree) (t : TermTree) (b : Option Name) (first : PlacedTree)
     → HaveIn Q (terms_in first) → HaveIn Q (terms_in (letrec_fix bs xs s w (term_span t) (nameless bs (b ∷ xs) t) first))
 in_fix Q bs xs s w t b first h =
@@ -307,7 +307,7 @@ begun : (o low high : ℕ) (ts : List Lexeme) → TokensStand low ts high → In
 begun o low high [] stand h = tt
 begun o low high (lexeme k x s ∷ ts) stand h = (omega (arith, stand.1, h.0), begun o s.end high ts stand.2 h.1)
 
--- they begin in front of each byte from the end of the text on that they are the tokens of; that is no text, or a semicolon is its last token
+-- they begin in front of each byte from the end of their text on, where that text is empty, or its last token is a semicolon
 pub begin_in_front : (ahead : List ℕ) (front : List Lexeme) (o : ℕ) → AreTokensOf ahead front → (ahead ≡ []) ⊎ EndsInSemicolon ahead front → length ahead ≤ o
     → AllByRecursion (λ t. start_of t < o) front
 begin_in_front ahead front o are (inl none) le = subst (AllByRecursion (λ t. start_of t < o)) (sym (no_tokens 0 ahead front none are)) tt

@@ -1,4 +1,4 @@
--- The piece round an offset, by its row: where it stands in the text, and what names mean in front of it.
+-- The piece around an offset, by its row: where it stands in the text, and what names mean in front of it.
 use Rattle.std.proofs.Common.{◌≡◌, ℕ, ◌+◌, ◌<◌, ◌≤◌, true, get_or, List, [], ◌∷◌, ◌++◌, append-nil, length, take, drop, slice_range, map, refl, sym, ap, subst, ◌∙◌, arith}
 use Rattle.std.specs.List.{All}
 use Rattle.std.specs.Str.{IsUtf8, IsCharBoundary}
@@ -69,7 +69,7 @@ front_same text f (r ∷ rows) g e ts d are are' =
     let same = row_own_same text f are.0 are'.0 r ts d are.1 are'.1 in
     front_same text (front_with f are'.0 ts r) rows g e ts d (subst (λ own. AreRowsFrom text (front_with f own ts r) rows g ts d) same are.2) are'.2
 
--- ---- the row round the offset
+-- ---- the row around the offset
 
 -- the rows of an analysis, where they stand in its text
 abbrev pub rows_in : Analysis → List Row

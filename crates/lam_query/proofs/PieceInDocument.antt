@@ -82,7 +82,7 @@ module _ (before : List CommandTree) (o : ℕ) (none_before : place_at (table be
   abbrev Seen : Scope
   Seen = scope_behind before
 
-  -- a number of a term behind theirs, by that among those behind
+  -- the number of a term behind theirs, by its number among those behind
   abbrev Further : ℕ → ℕ
   Further n = length (document_terms before) + n
 
@@ -103,7 +103,7 @@ module _ (before : List CommandTree) (o : ℕ) (none_before : place_at (table be
       ∙ find-append f (document_terms before) (commands_terms Types Names Seen more)
       ∙ ap (λ p. option_or p (find f (commands_terms Types Names Seen more))) (found_nowhere f (document_terms before) none_there)
 
-  -- and neither have the others: there is none
+  -- if the others have none either, there is none
   pub number_nowhere : (after : List CommandTree) → place_at (table after) o ≡ None → number_at o (document_terms (before ++ after)) ≡ None
   number_nowhere after none =
       number_behind after ∙ ap (option_map Further) (sym (place_alone Types Names Seen after o) ∙ none)
@@ -122,7 +122,7 @@ module _ (before : List CommandTree) (o : ℕ) (none_before : place_at (table be
     none_in_others =
         sym (place_alone (abbreviations_after Types c) (names_after Names c) (scope_after Types Names Seen c) after o) ∙ none_after
 
-    -- but for one between: it is the one of that command
+    -- if only the command between has one, it is that one
     pub number_between : number_at o (document_terms (before ++ c ∷ after)) ≡ option_map Further (number_at o Own)
     number_between =
         number_behind (c ∷ after)

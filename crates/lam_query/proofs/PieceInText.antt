@@ -1,4 +1,4 @@
--- The piece round an offset among the tokens and the commands of its text.
+-- The piece around an offset among the tokens and the commands of its text.
 use Rattle.std.proofs.Common.{◌≡◌, ◌⊎◌, ℕ, ◌+◌, ◌<◌, ◌≤◌, Bool, true, false, not, ltb, List, [], ◌∷◌, ◌++◌, append-nil, append_assoc, length, take, drop, slice_range, None, refl, sym, ap, subst, ◌∙◌, inl, inr, arith}
 use Rattle.std.specs.Prelude.{◌&&◌}
 use Rattle.std.specs.List.{AllByRecursion}
@@ -40,7 +40,7 @@ use Rattle.lam_query.proofs.SpelledRows.{spelled_through}
 
 -- ---- tokens in front of the cursor, and behind it
 
--- one that ends in front of the cursor, or at it and is no word
+-- a token that ends before the cursor is in front of it, and so is a semicolon that ends at it; it is the same behind the cursor
 not_word : (k : Kind) → ends_piece k ≡ true → is_word_kind k ≡ false
 not_word kind.Semicolon is = refl
 not_word k is = absurd cc

@@ -55,7 +55,7 @@ module _ (text : List ℕ) (tokens : List Lexeme) (o : ℕ) (t : Lexeme) (are : 
   with_other : (l : Label) → AreCommandsOf (pieces_of (with_label o t l tokens)) (labelled (start_of t) l cs)
   with_other l = label_changed text tokens o t one_label l cs are before are_commands
 
-  -- whatever label is put in, these are the commands, and this is the number
+  -- whatever label is put in, this is the dot, these are the commands, and this is the number
   one_dot : (l : Label) (h : IsProjected tokens o l) → h.dot ≡ t
   one_dot l h = let both : Some h.dot ≡ Some t = sym h.is_before ∙ before in cc
 

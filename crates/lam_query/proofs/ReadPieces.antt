@@ -149,7 +149,7 @@ other_read front done t before noted now goes_on is pushed piece_faults token_fa
 pub all_left : (all : List Lexeme) (reader : Reader) → reader.piece.items ≡ [] → AreRead [] [] reader → AreReadBut all all [] reader
 all_left all reader no_piece h = record { front = []; read = h; are_all = ap (λ ts. ts ++ all) (sym no_piece) }
 
--- a semicolon more was read
+-- one more semicolon was read
 pub semicolon_passed : (all left : List Lexeme) (done own : List CommandTree) (t : Lexeme) (before now : Reader)
     → ((front : List Lexeme) (done : List CommandTree) → AreRead front done before → AreRead (front ++ (before.piece.items ++ t ∷ [])) (done ++ own) now)
     → now.piece.items ≡ [] → AreReadBut all (t ∷ left) done before → AreReadBut all left (done ++ own) now

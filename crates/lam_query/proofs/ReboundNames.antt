@@ -49,7 +49,7 @@ module _ (rows : List Row) (old now : Bound) (rebound : AreRebound rows [] old n
 
 -- ---- one row more
 
--- where this is kept of a piece, names mean after the step what they mean with the piece
+-- where this is kept of a piece, names mean after the step what they mean behind the piece
 abbrev pub IsStepOver : Option CommandRow → (old now more : Bound) → Type 0
 IsStepOver o old now more =
     (own : List CommandTree) (s : Sight) (ts : List Typ) (d : Dialect) → IsKeptOf s.names s.types own ts o d → AreItsNumbers old own o

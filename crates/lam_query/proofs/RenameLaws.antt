@@ -205,7 +205,7 @@ module _ (text : List ℕ) (o : ℕ) (new : List ℕ) where
   same_spans : (a b : IsBound text o) → spans_bound a ≡ spans_bound b
   same_spans a b = one_bound text o (λ t cs s. references_to cs true s) a b
 
-  -- binding never stays and changes
+  -- binding never both stays and changes
   keeps_too : (a b : IsBound text o) → KeepsForm (spans_bound a) new a.parsed.commands → KeepsForm (spans_bound b) new b.parsed.commands
   keeps_too a b keeps =
       one_bound text o (λ t cs s. forms (map (respelled_command (λ p. p) (renaming (references_to cs true s) new)) cs)) b a ∙ keeps ∙ one_bound text o (λ t cs s. forms cs) a b

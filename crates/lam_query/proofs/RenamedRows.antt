@@ -52,7 +52,7 @@ unparsed text parsed read some = record {
   none = some_none read.tokens (commands_read parsed) (map fault_of parsed.faults.items) read.commands read.faults (λ e. some (none_told parsed.faults.items e));
 }
 
--- a text without such a fault is commands
+-- each piece of a text without such a fault is a command
 abbrev whole : (text : List ℕ) (parsed : Parsed) → IsRead text parsed → NoFaults parsed → IsParsed text
 whole text parsed read none = record {
   tokens = read.tokens;

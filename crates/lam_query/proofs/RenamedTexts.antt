@@ -1,4 +1,4 @@
--- A name under the cursor and its references with a new name: the spans are those of tokens of one kind, so that the text, edited so, has the same tokens, pieces and commands but for the new name.
+-- A bound name and its references with a new name: they are tokens of one kind, so the edited text has the same tokens, pieces and commands but for that name.
 use Rattle.std.proofs.Common.{◌≡◌, ℕ, ◌==◌, List, [], ◌∷◌, map, Bool, true, false, Option, Some, None, inl, inr, refl, sym, ap, subst, ◌∙◌}
 use Rattle.std.specs.Prelude.{if◌then◌else◌}
 use Rattle.std.specs.Option.{option_map}

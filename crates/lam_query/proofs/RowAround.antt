@@ -71,7 +71,7 @@ module _ (text : List ℕ) (offset : ℕ) (rows before : List Row) (r : Row) (af
     in_or_last = in_row_or_last ends;
   }
 
--- so it is of the row with a number
+-- so the row around the offset is the one with this number
 pub row_around : (text : List ℕ) (offset : ℕ) (rows : List RustRow) (i : ℕ) (e : RustRow) (start : ℕ) → i < length rows
     → start + bytes_of (rows_of (drop i rows)) ≡ bytes_of (rows_of rows) → start ≤ offset
     → (offset < start + (get_or rows i e).end) ⊎ (i + 1 ≡ length rows)

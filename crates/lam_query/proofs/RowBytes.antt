@@ -10,11 +10,11 @@ pub bytes_append : (rows others : List Row) → bytes_of (rows ++ others) ≡ by
 bytes_append [] others = omega arith
 bytes_append (r ∷ rows) others = omega (arith, bytes_append rows others)
 
--- those of the first pieces and of the others
+-- pieces have the bytes of the first ones and of the others
 pub bytes_split : (n : ℕ) (rows : List Row) → bytes_of rows ≡ bytes_of (take n rows) + bytes_of (drop n rows)
 bytes_split n rows = ap bytes_of (sym (take-append-drop n rows)) ∙ bytes_append (take n rows) (drop n rows)
 
--- one of the others fewer
+-- the others without the first of them have fewer bytes, by those of that one
 pub bytes_fewer : (rows : List RustRow) (i : ℕ) (d : RustRow) → i < length rows
     → bytes_of (drop i (rows_of rows)) ≡ (get_or rows i d).end + bytes_of (drop (i + 1) (rows_of rows))
 bytes_fewer rows i d lt =
@@ -22,7 +22,7 @@ bytes_fewer rows i d lt =
     ∙ ap (λ (rs : List RustRow). bytes_of (rows_of rs)) (drop_more rows i d lt)
     ∙ ap (λ rs. (get_or rows i d).end + bytes_of rs) (sym (drop-map row_of (i + 1) rows))
 
--- those of one more of the first pieces
+-- the first ones with one more have more bytes, by those of that one
 pub bytes_more : (rows : List RustRow) (i : ℕ) (d : RustRow) → i < length rows
     → bytes_of (take (i + 1) (rows_of rows)) ≡ bytes_of (take i (rows_of rows)) + (get_or rows i d).end
 bytes_more rows i d lt = omega (arith, bytes_split (i + 1) (rows_of rows), bytes_split i (rows_of rows), bytes_fewer rows i d lt)

@@ -25,7 +25,7 @@ use Rattle.lam_query.proofs.RowBytes.{many}
 
 -- ---- lists
 
--- what is put between the first and the last of a list, so many, and what is behind it
+-- a list with other elements put between its first and its last ones: what it has up to their end, and behind it
 module _ {X : Type 0} (xs ys : List X) (from to next : ℕ) (inside : from ≤ length xs) (is : next ≡ from + length ys) where
   long : length (take from xs ++ ys) ≡ next
   long = length-append (take from xs) ys ∙ ap (λ n. n + length ys) (length-take-le from xs inside) ∙ sym is
@@ -117,7 +117,7 @@ module _ {old new : List ℕ} {a : Analysis} {front : FrontRows} {x : Analyst} (
 
   -- ---- some pieces are left
 
-  -- where names meant this in the old text, in front of the first row that is left
+  -- in front of the first row that is left, names meant this in the old text
   pub record IsLeftFrom (to : ℕ) (e : Entries) : Type 0 where
     pub sight : Sight
     pub rows : AreRows sight (drop to (Pieces h)) (drop to (rows_of a.rows.items)) h.of.sight (types_in a.types) x.bound a.dialect

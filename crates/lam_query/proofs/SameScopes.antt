@@ -19,7 +19,7 @@ use Rattle.lam_query.proofs.LeastEntries.{lowest_outside, lowest_entry}
 
 -- g is the context behind the commands of the text, h the one behind the others
 module _ (g h : Context) (d : Dialect) where
-  -- The scope s behind the commands of the text and the scope r behind the others. Both have as many binders more as there are own names, and these have the same least entries.
+  -- A scope s behind the commands of the text, and r behind the others. Both have as many more binders as there are own names, and these have the same least entries.
   pub record AreSameScopes (own : List (Option Name)) (s r : Scope) : Type 0 where
     pub wf : IsWellFormedScope r
     pub alone_entries : (k : Context) → AreLeastEntries r k d → (e : Context) × (length e ≡ length own) × (k ≡ e ++ h)

@@ -67,7 +67,7 @@ module _ (xs ys : List (Option Name)) (g h : Context) where
           → MeanTheSame ns (own ++ xs) (e ++ g) (own ++ ys) (e ++ h) × MeanTheSame ms (own ++ xs) (e ++ g) (own ++ ys) (e ++ h)
       parts e count = every_parts (λ x. entry_named x (own ++ xs) (e ++ g) ≡ entry_named x (own ++ ys) (e ++ h)) ns ms (mean e count)
 
-  -- those of the inside of one binder more
+  -- the names inside of one binder more
   mean_inside : (own : List (Option Name)) (b : Option Name) (ns : List Name) → MeanTheSameUnder own (without b ns) → MeanTheSameUnder (b ∷ own) ns
   mean_inside own b ns mean [] count = absurd (omega (arith, count))
   mean_inside own b ns mean (entry ∷ e) count = inside ns (mean e (omega (arith, count)))

@@ -15,8 +15,8 @@ use Rattle.lam_typing.specs.Progress.{IsLowest}
 use Rattle.lam_query.specs.inner.Checked.{abbreviations_behind, names_behind, scope_behind}
 use Rattle.lam_query.proofs.TermsAlone.{bare}
 
--- All that the command takes from outside means behind the commands `pre`, which have no terms, what it means behind the commands `done`. The one's context is h, and has no
--- other least entries; the other's is g.
+-- All that the command takes from outside means the same behind the commands `pre`, which have no terms, as behind the commands `done`. The context behind `pre` is h,
+-- the only one of least entries; that behind `done` is g.
 pub record IsSeenAlike (done pre : List CommandTree) (g h : Context) (c : CommandTree) (d : Dialect) : Type 0 where
   pub lowest : IsLowest (scope_behind done) g d
   pub lengths : length (names_behind done) ≡ length g
@@ -28,7 +28,7 @@ pub record IsSeenAlike (done pre : List CommandTree) (g h : Context) (c : Comman
   pub no_terms : document_terms pre ≡ []
   pub none_too_large : first_too_large [] pre ≡ None
 
--- A term p of the command behind `done`, and the same term q behind `pre`. Both see the same binders of the command's own, and with the same entries for these they are alike.
+-- A term p of the command behind `done`, and the same term q behind `pre`. Both see the same own binders of the command, and with the same entries for these are alike.
 pub record IsSameTerm (done pre : List CommandTree) (g h : Context) (p q : PlacedTree) (d : Dialect) : Type 0 where
   pub own : List (Option Name)
   pub names : (term_of p).names ≡ own ++ names_behind done

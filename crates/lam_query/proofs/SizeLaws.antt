@@ -1,4 +1,4 @@
--- Whether a document has a size fault is decided, as for the places in front of a term, and it has no two.
+-- Whether a document has a size fault is decided, and so it is for the places in front of a term; and none has two.
 use Rattle.std.proofs.Common.{◌≡◌, ◌⊎◌, ℕ, zero, suc, ◌<◌, ◌≤◌, List, [], ◌∷◌, take, Option, Some, None, refl, sym, ap, subst, ◌∙◌, inl, inr, arith}
 use Rattle.std.proofs.lemmas.Bool.{cases_lt}
 use Rattle.lam_rules.specs.Types.{Typ, nodes}

@@ -52,13 +52,13 @@ terms_inside done c rest n lt =
 
 -- ---- a place that is too large
 
--- the first one that is, and one of this number
+-- the first one that is too large is there, and is too large
 pub first_is_large : (ps : List Place) (n : ℕ) (default : Place) (d : Dialect) → IsFirstTooLarge ps n d → (n < length ps) × IsTooLarge (get_or ps n default) d
 first_is_large [] n default d first = absurd first
 first_is_large (p ∷ ps) zero default d first = (omega arith, first)
 first_is_large (p ∷ ps) (suc n) default d first = let rest = first_is_large ps n default d first.3 in let lt = rest.0 in (omega arith, rest.1)
 
--- with one that is there is a first
+-- where one is too large, there is a first one
 none_is_large : (ps : List Place) (n : ℕ) (default : Place) (d : Dialect) → AreWellFormedPlaces ps → ((m : ℕ) → IsFirstTooLarge ps m d → ⊥)
     → n < length ps → IsTooLarge (get_or ps n default) d → ⊥
 none_is_large [] n default d wf none lt large = omega arith

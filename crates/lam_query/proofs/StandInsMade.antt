@@ -26,7 +26,7 @@ use Rattle.lam_query.proofs.Entering.{name_at}
 
 -- ---- one by one
 
--- what is left of the names comes to all stand-ins, behind those that were made
+-- the stand-ins that were made, and behind them those of the names that are left, are all stand-ins
 abbrev pub AreMade : (make : Name × Option Typ → CommandTree) → Lookup → (names left : List (Bor (List ℕ))) → (old now : List Command) → Type 0
 AreMade make look names left old now = map command_of now ++ map make (entered look (names_in left)) ≡ map command_of old ++ map make (entered look (names_in names))
 

@@ -5,7 +5,7 @@ use Rattle.std.specs.List.{find}
 use Rattle.lam_token.specs.Lexeme.{Lexeme, start_of}
 use Rattle.lam_query.specs.Touched.{is_name_over, is_name_before, touched}
 
--- the byte at which the touched name begins, where these tokens are left and a name before them that ends at the byte begins there
+-- the byte at which the touched name begins, where these tokens are left and a name before them that ends at the byte begins at `before`
 abbrev pub touched_from : (before : Option ℕ) → ℕ → List Lexeme → Option ℕ
 touched_from before o left = option_or (option_map start_of (find (is_name_over o) left)) (option_or before (option_map start_of (find (is_name_before o) left)))
 
@@ -17,11 +17,11 @@ start_or (Some t) b = refl
 pub touched_told : (o : ℕ) (all : List Lexeme) (found : Option ℕ) → touched_from None o all ≡ found → found ≡ option_map start_of (touched o all)
 touched_told o all found is = sym is ∙ sym (start_or (find (is_name_over o) all) (find (is_name_before o) all))
 
--- one that has the byte
+-- a name that has the byte
 pub over_passed : (before : Option ℕ) (o : ℕ) (t : Lexeme) (tokens left : List Lexeme) → tokens ≡ t ∷ left → is_name_over o t ≡ true → touched_from before o tokens ≡ Some (start_of t)
 over_passed before o t tokens left first over = rw (first, over) refl
 
--- another
+-- another token
 
 first_before : (b : Bool) (t : Lexeme) (rest : Option Lexeme) → option_map start_of (if b then Some t else rest) ≡ option_or (if b then Some (start_of t) else None) (option_map start_of rest)
 first_before true t rest = refl

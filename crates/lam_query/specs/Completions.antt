@@ -75,7 +75,7 @@ abbrev pub if_dot : Lexeme → Option Lexeme
 if_dot (lexeme kind.Dot x s) = Some (lexeme kind.Dot x s)
 if_dot t = None
 
--- the last token before the cursor and the word that it touches, if that token is a dot; none where the cursor is strictly inside another token
+-- the last token before the cursor and before the word that it touches, if that token is a dot; none where the cursor is strictly inside another token
 abbrev pub dot_before : ℕ → List Lexeme → Option Lexeme
 dot_before o tokens = if list_any (is_around o) tokens then None else option_and_then if_dot (last_or None (filter (is_in_front o) tokens))
 

@@ -1,4 +1,4 @@
--- What is wrong first with a derivation that is not verified, or too deep. Steps and entries are counted from 0, entries from the outermost.
+-- What is wrong first with a derivation that is not verified, or is too deep. Steps and entries are counted from 0, entries from the outermost.
 use Rattle.std.specs.Prelude.{◌≡◌, ◌≢◌, ◌⊎◌, ℕ, suc, ◌<◌, List, [], ◌∷◌, length, take, map, reverse, slice_get, Option, Some, None, true}
 use Rattle.lam_token.specs.declared.span.Span.{Span}
 use Rattle.lam_rules.specs.Typing.{Context, TypingTree, IsTyping}
@@ -25,7 +25,7 @@ pub record AreOfProofs (steps : List Step) : Type 0 where
   pub proofs : Proofs
   pub are : steps ≡ steps_of_each 0 proofs
 
--- This step is the first whose premises are not the last steps of the proofs directly before it: the steps before it are those of proofs, and none with it are.
+-- This step is the first whose premises are not the last steps of the proofs directly before it: those before it are of proofs, and no first steps that include it are.
 pub record IsFirstMisplaced (steps : List Step) (number : ℕ) : Type 0 where
   pub inside : number < length steps
   pub before : AreOfProofs (take number steps)
@@ -63,7 +63,7 @@ entries_listed x = reverse (map (λ e. e.type) x.context)
 abbrev pub HasNames : PlacedTree → Derivation → Type 0
 HasNames term x = map (λ e. e.name) x.context ≡ names_seen term
 
--- The outermost entry that does not fit its binder has this index: it is further out, or else it is this one.
+-- The outermost entry that does not fit its binder has this index: it is further out, or else it is the innermost one.
 abbrev pub IsFirstUnfitEntry : Scope → Context → Dialect → ℕ → Type 0
 IsFirstUnfitEntry (b ∷ outside) (entry ∷ g) d number =
     IsFirstUnfitEntry outside g d number ⊎ (IsContext outside g d × (Fits b (λ h. IsContext outside h d) entry d → ⊥) × (number ≡ length outside))
@@ -79,7 +79,7 @@ pub record HasContext (term : PlacedTree) (x : Derivation) (d : Dialect) : Type 
   pub names : HasNames term x
   pub context : IsContext (term_of term).place.scope (entries_listed x) d
 
--- in this order: the names in the context, its entries, the steps by their rules, and their ranges
+-- what is wrong first with a derivation as one about this term: the names in its context, its entries, the steps by their rules, or their ranges
 abbrev pub IsFaultAt : PlacedTree → Derivation → Dialect → FirstFault → Type 0
 IsFaultAt term x d faults.Names = HasNames term x → ⊥
 IsFaultAt term x d (faults.Entry number) = HasNames term x × IsFirstUnfitEntry (term_of term).place.scope (entries_listed x) d number
@@ -96,13 +96,13 @@ IsFaultAt term x d _ = ⊥
 abbrev pub HasRange : List CommandTree → List Step → ℕ → Type 0
 HasRange commands steps n = ((term_of (tree_in (document_terms commands) n)).is_written ≡ true) × (last_span steps ≡ Some (span_numbered commands n))
 
--- the subterm with this index is the first such one
+-- the subterm with this index is the first such subterm
 pub record IsFirstWithRange (commands : List CommandTree) (steps : List Step) (number : ℕ) : Type 0 where
   pub inside : number < length (document_terms commands)
   pub here : HasRange commands steps number
   pub first : (n : ℕ) → n < number → HasRange commands steps n → ⊥
 
--- what is wrong with it as a derivation about the first term with the range of its last step; or there is none
+-- what is wrong with a derivation as one about the first term that has the range of its last step; or that there is no such term
 abbrev pub IsFaultIn : List CommandTree → Derivation → Dialect → FirstFault → Type 0
 IsFaultIn commands x d (faults.NoTerm number) =
     (suc number ≡ length x.steps) × ((n : ℕ) → n < length (document_terms commands) → HasRange commands x.steps n → ⊥)
@@ -116,7 +116,7 @@ pub record AreOfOneProof (steps : List Step) : Type 0 where
   pub tree : TypingTree
   pub make : MakeTree steps tree
 
--- Its steps are those of one proof, and the text has no type of more than 4,096 nodes: what is wrong is in the text.
+-- The steps are those of one proof, and the text has no type of more than 4,096 nodes: this is wrong with the derivation as one about the text.
 pub record IsFaultInText (text : List ℕ) (x : Derivation) (d : Dialect) (fault : FirstFault) : Type 0 where
   pub of_one_proof : AreOfOneProof x.steps
   pub commands : List CommandTree
@@ -131,8 +131,8 @@ pub record IsTooLarge (text : List ℕ) (d : Dialect) : Type 0 where
   pub span : Span
   pub is_fault : IsSizeFault commands span d
 
--- What is wrong with a derivation, in this order: it has no step, or too many levels; its steps are not those of proofs, or not of one; the text is too large; it is about
--- no term of the text, or what is wrong with it as one about that term.
+-- What is wrong with a derivation, in this order: it has no step, or too many levels; its steps are not those of proofs, or not of one; a type of the text is too large;
+-- it is about no term of the text, or else what is wrong with it as one about a term.
 abbrev pub IsFirstFault : List ℕ → Derivation → Dialect → FirstFault → Type 0
 IsFirstFault text x d faults.NoStep = x.steps ≡ []
 IsFirstFault text x d faults.TooDeep = AreTooDeep x.steps
@@ -146,7 +146,7 @@ IsFirstFault text x d fault = IsFaultInText text x d fault
 abbrev pub IsSound : List ℕ → Derivation → Dialect → Type 0
 IsSound text x d = IsVerified text x d × (AreTooDeep x.steps → ⊥)
 
--- what is wrong first, and alone, if it is not
+-- `None` if the derivation is sound; otherwise what is wrong first, and nothing else is
 abbrev pub IsResult : List ℕ → Derivation → Dialect → Option FirstFault → Type 0
 IsResult text x d None = IsSound text x d
 IsResult text x d (Some fault) = (IsSound text x d → ⊥) × IsFirstFault text x d fault × ((other : FirstFault) → IsFirstFault text x d other → other ≡ fault)

@@ -18,7 +18,7 @@ abbrev mutual
   sub_steps_in_each no_subs = 0
   sub_steps_in_each (sub_first p ps) = sub_steps_in p + sub_steps_in_each ps
 
--- those of the subtyping premise, if there is one
+-- the number of steps of the subtyping premise, if there is one
 abbrev pub side_steps_in : Option SubTree → ℕ
 side_steps_in None = 0
 side_steps_in (Some q) = sub_steps_in q
@@ -41,13 +41,13 @@ pub data Judgement : Type 0 where
   below : SubTree → Judgement
   about_no_part : Judgement
 
--- whether that follows by the rules
+-- a judgement follows by the rules
 abbrev pub Follows : Dialect → Judgement → Type 0
 Follows d (typed g e p) = IsTyping g e p d
 Follows d (below q) = IsSubProof q d
 Follows d about_no_part = Unit {0}
 
--- all of them
+-- all of these judgements follow
 abbrev pub AllFollow : Dialect → List Judgement → Type 0
 AllFollow d [] = Unit {0}
 AllFollow d (j ∷ js) = Follows d j × AllFollow d js
@@ -99,7 +99,7 @@ abbrev mutual
   sub_judgements_each no_subs = []
   sub_judgements_each (sub_first p ps) = sub_judgements p ++ sub_judgements_each ps
 
--- those of a proof of subtyping, if there is one
+-- what the steps of a proof of subtyping say, if there is one
 abbrev pub side_judgements : Option SubTree → List Judgement
 side_judgements None = []
 side_judgements (Some q) = sub_judgements q
@@ -110,7 +110,7 @@ abbrev mutual
   judgements g e (typing_step rule type premises side) =
       judgements_each (subjects rule g e premises) premises ++ side_judgements side ++ typed g e (typing_step rule type premises side) ∷ []
 
-  -- those of its premises, each about one of these; nothing if none is left
+  -- what the steps of its premises say, each premise about the next of these; about no part if none is left
   pub judgements_each : List Subject → TypingTrees → List Judgement
   judgements_each ss no_typings = []
   judgements_each [] (typing_first p ps) = replicate (steps_in p) about_no_part ++ judgements_each [] ps

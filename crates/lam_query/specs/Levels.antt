@@ -12,7 +12,7 @@ IsChain steps [] = Unit {0}
 IsChain steps (last ∷ []) = last < length steps
 IsChain steps (number ∷ premise ∷ others) = Contains (premises_at steps number) premise × (premise < number) × IsChain steps (premise ∷ others)
 
--- The steps follow from each other on more than 16,384 levels: so many are a chain.
+-- The steps follow from each other on more than 16,384 levels: there is a chain of so many.
 pub record AreTooDeep (steps : List Step) : Type 0 where
   pub chain : List ℕ
   pub is_chain : IsChain steps chain

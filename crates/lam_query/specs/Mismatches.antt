@@ -19,12 +19,12 @@ pub data Mismatch : Type 0 where
   expected : (asked found : Text) → Mismatch
   found : (found : Text) → Mismatch
 
--- of an application, from the least types of its terms: the argument does not fit, or the first term is not a function
+-- the mismatch of an application, from the least types of its terms: the argument does not fit, or the first term is not a function
 abbrev pub in_application : (function argument : Typ) → Mismatch
 in_application (arrow p r) t = expected (text p) (text t)
 in_application t u = found (text t)
 
--- of a fix, from that of its term: the result type does not fit the parameter type, or the term is not a function
+-- the mismatch of a fix, from the least type of its term: the result type does not fit the parameter type, or the term is not a function
 abbrev pub in_fix : Typ → Mismatch
 in_fix (arrow p r) = expected (text p) (text r)
 in_fix t = found (text t)

@@ -23,6 +23,6 @@ pub data IsSizeFault : List CommandTree → Span → Dialect → Type 0 where
   of_term : {commands : List CommandTree} {d : Dialect} (n : ℕ)
       → first_too_large [] commands ≡ None → IsFirstTooLarge (places_in commands) n d → IsSizeFault commands (span_numbered commands n) d
 
--- there is none
+-- there is no size diagnostic
 abbrev pub IsSmall : List CommandTree → Dialect → Type 0
 IsSmall commands d = (s : Span) → IsSizeFault commands s d → ⊥

@@ -58,7 +58,7 @@ abbrev mutual
   pub sub_proof : SubTree → Proof
   sub_proof (sub_step rule lower upper premises) = concludes (subtyping rule lower upper) (sub_proofs premises)
 
-  -- those of its premises
+  -- the trees of its premises
   pub sub_proofs : SubTrees → Proofs
   sub_proofs no_subs = no_proofs
   sub_proofs (sub_first p ps) = proof_first (sub_proof p) (sub_proofs ps)
@@ -79,7 +79,7 @@ abbrev mutual
   pub typing_proof : PlacedTree → TypingTree → Proof
   typing_proof t (typing_step rule type premises side) = concludes (typing rule (term_of t).span type) (with_side (typing_proofs t (premise_terms rule t) premises) side)
 
-  -- those of its premises: each is about the next of these terms, and about the term itself if none is left, which never happens in a proof by the rules
+  -- the trees of its premises: each is about the next of these terms, and about the term itself if none is left, which never happens in a proof by the rules
   pub typing_proofs : PlacedTree → PlacedTrees → TypingTrees → Proofs
   typing_proofs t parts no_typings = no_proofs
   typing_proofs t no_parts (typing_first p ps) = proof_first (typing_proof t p) (typing_proofs t no_parts ps)

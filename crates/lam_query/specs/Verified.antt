@@ -10,8 +10,8 @@ use Rattle.lam_query.specs.Sizes.{IsSmall}
 use Rattle.lam_query.specs.Steps.{steps_of, typing_proof}
 use Rattle.lam_typing.specs.Contexts.{IsContext}
 
--- The derivation is about this term of the text (a letrec's derived terms are not in it): its context lists the names in scope there, each with an entry that the rules allow, and its steps, with their ranges, are those of
--- a proof that the term has the concluded type in this context.
+-- The derivation is about this term of the text (a letrec's derived terms are not in it): its context lists the names in scope there, each with an entry
+-- that the rules allow, and its steps, with their ranges, are those of a proof that the term has the concluded type in this context.
 pub record IsProofOf (term : PlacedTree) (derivation : Derivation) (d : Dialect) : Type 0 where
   pub written : (term_of term).is_written ≡ true
   pub entries : Context
@@ -22,7 +22,7 @@ pub record IsProofOf (term : PlacedTree) (derivation : Derivation) (d : Dialect)
   pub proof : IsTyping entries (term_of term).place.here tree d
   pub steps : derivation.steps ≡ steps_of 0 (typing_proof term tree)
 
--- The derivation is about the term with this id among those of these commands.
+-- The derivation is about the term with this number among the terms of these commands.
 abbrev pub IsProofAt : List CommandTree → (number : ℕ) → Derivation → Dialect → Type 0
 IsProofAt commands number derivation d = IsProofOf (tree_in (document_terms commands) number) derivation d
 

@@ -52,7 +52,7 @@ pub(crate) struct Analyst<'t> {
     /// What is bound after the pieces that were read or followed.
     pub(crate) bound: Bound,
     pub(crate) rows: Vec<Row>,
-    /// The byte offset at which those pieces end.
+    /// The byte offset at which the pieces that were read or followed end.
     pub(crate) end: usize,
     pub(crate) commands_typed: usize,
     pub(crate) bytes_read: usize,

@@ -93,7 +93,7 @@ pub enum FirstFault {
     TooDeep,
     /// The premises of this step are not the last steps of the proofs directly before it.
     Premises(usize),
-    /// This is the last step, and all steps are not those of one proof of typing.
+    /// This is the last step, and the steps together are not those of one proof of typing.
     Loose(usize),
     /// A type of the text is too large.
     TooLarge,

@@ -93,7 +93,7 @@ pub(crate) fn inner_binders<'s>(
     Ok(binders)
 }
 
-/// Returns the entry of a binder, if there is a typing and it has one.
+/// Returns the entry of a binder, if there is a typing and the binder has one in it.
 fn entry_of(typing: Option<&Typing>, binder: Binder) -> Option<TyNo>
     ensures some { IfSome typing.entry (λ t. (answer (types_of t.now) result ≡ get_or (entries_in t.now) binder.0 None) × StandsIfAny (types_of t.now) result) }
     ensures none { typing.entry ≡ None → result ≡ None }

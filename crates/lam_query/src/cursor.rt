@@ -7,8 +7,8 @@ ghost use Rattle.lam_query.specs.Completions.{is_word_kind, reaches, is_touched,
 
 use lam_token::{Kind, Token, first_token};
 
-/// Returns the offset of the dot that is the last token of a piece before the cursor and the word it touches, or `None` if
-/// another token is there or contains the cursor. The piece starts at `from`. The offset after the dot fits in a `usize`.
+/// Returns the offset of the dot that is the last token of a piece before the cursor and before the word it touches, or `None`
+/// if another token is there or contains the cursor. The piece starts at `from`. The offset after the dot fits in a `usize`.
 pub(crate) fn dot_before(piece: &str, from: usize, offset: usize) -> Option<usize>
     requires { from + length piece.now < 2 ^ 64 }
     ensures dot { (tokens : List Lexeme) → AreTokensFrom from piece.now tokens → result ≡ option_map start_of (dot_before offset tokens) }

@@ -58,7 +58,7 @@ impl Analysis {
         }
     }
 
-    /// The same, given the command of the piece there, if no type of the text is over the size limit.
+    /// The same, given the command of the piece there, and that no type of the text is over the size limit.
     fn derivation_in(
         &self,
         alloc: Global,

@@ -1,4 +1,4 @@
-//! How the steps of a derivation follow from each other: whether on too many levels, and which premises are misplaced first.
+//! How the steps of a derivation follow from each other: whether on too many levels, and the first with misplaced premises.
 ghost use Rattle.std.specs.Prelude.{◌≡◌, ◌+◌, ◌≤◌, ◌↔◌, ℕ, IsTrue, IfOk, MatchOption, get_or, map};
 ghost use Rattle.lam_query.specs.Views.{step_of};
 ghost use Rattle.lam_query.specs.FirstFaults.{AreOfProofs, IsFirstMisplaced};

@@ -100,7 +100,7 @@ impl Analysis {
         Ok(())
     }
 
-    /// Appends those of one piece, before which names have these entries: those of written types, then those of terms.
+    /// Appends the diagnostics of one piece, before which names have these entries: of written types, then of terms.
     fn push_faults_of(
         &self,
         alloc: Global,
@@ -262,7 +262,7 @@ fn in_application(table: &TyTable, function: TyNo, argument: TyNo) -> Result<Mis
     }
 }
 
-/// A term that should have this type, `Bool` or `Nat`.
+/// The mismatch of a term that should have this type, `Bool` or `Nat`, with the type that it has.
 fn below(alloc: Global, asked: &str, table: &TyTable, term: TyNo) -> Result<Mismatch, AllocError>
     requires { Stands table.now term }
     ensures { IfOk result (λ made. mismatch_of made ≡ expected asked.now (text (type_of table.now term))) }
@@ -273,7 +273,7 @@ fn below(alloc: Global, asked: &str, table: &TyTable, term: TyNo) -> Result<Mism
     })
 }
 
-/// Returns `None` if the ascribed type does not stand for a type.
+/// The mismatch of an ascription, or `None` if the written type does not stand for a type.
 fn in_ascription(
     alloc: Global,
     table: &TyTable,

@@ -24,7 +24,7 @@ use std::mem;
 pub(crate) struct Parsed {
     /// In text order. A piece that derives no command is skipped.
     pub(crate) commands: Vec<Command>,
-    /// Those of tokens, then those of pieces.
+    /// The diagnostics of tokens, then those of pieces.
     pub(crate) faults: Vec<Fault>,
 }
 
@@ -190,7 +190,7 @@ impl<'t> Reader<'t> {
     }
 
     /// Adds the next token of the piece, unless it is a word that the cursor touches or has the cursor inside. Adds the name
-    /// before the first token after the cursor, and returns whether the name has been added by now.
+    /// that stands for a label before the first token after the cursor, and returns whether it has been added by now.
     fn push_around(
         &mut self,
         token: Token<'t>,

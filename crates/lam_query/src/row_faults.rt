@@ -21,8 +21,8 @@ pub(crate) struct RowFaults {
     pub(crate) large: Option<Span>,
 }
 
-/// Collects them in one pass, since after a small change of a long text a pass over all rows is much of the work. Offsets are
-/// relative to the start of the text.
+/// Collects the diagnostics of rows in one pass, since after a small change of a long text a pass over all rows is much of the
+/// work. Offsets are relative to the start of the text.
 pub(crate) fn collect_faults(alloc: Global, rows: &[Row]) -> Result<RowFaults, AllocError>
     requires { bytes_of (rows_of rows.now) < 2 ^ 64 }
     ensures syntax { IfOk result (λ found. AllFit (all_syntax (placed 0 (rows_of rows.now))) → map fault_of found.syntax.items ≡ all_syntax (placed 0 (rows_of rows.now))) }

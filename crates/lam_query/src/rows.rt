@@ -22,16 +22,16 @@ pub(crate) struct Row {
     pub(crate) end: usize,
     /// The lexical and syntactic diagnostics.
     pub(crate) syntax: Vec<Fault>,
-    /// The command that the piece is, if it is one.
+    /// What is kept of the command that the piece is, if it is one.
     pub(crate) command: Option<CommandRow>,
 }
 
 /// What an analysis keeps of one command.
 #[derive(Drop)]
 pub(crate) struct CommandRow {
-    /// The names and type names that are free in it.
+    /// The numbers of the names and type names that are free in it.
     pub(crate) free_numbers: Vec<NameNo>,
-    /// The name that it binds for the commands after it.
+    /// The number of the name that it binds for the commands after it.
     pub(crate) binds: Option<NameNo>,
     pub(crate) found: Found,
 }
@@ -67,7 +67,7 @@ pub(crate) struct PlacedRow {
 }
 
 impl Row {
-    /// The types of its command, or `None` if it is no command or has a type over the size limit.
+    /// The types of its command, or `None` if it has no command or one with a type over the size limit.
     fn found(&self) -> Option<&FoundTypes>
         ensures { option_map (λ t. found_types_of t.now) result ≡ types_of_found (found_in (row_of self.now)) }
     {

@@ -65,9 +65,9 @@ impl Analysis {
     }
 }
 
-/// Enters binders, outermost first, so that each replaces an outer one of the same name, with its entry as text if there is a
-/// table for it. An underscore has no name. The text of a type is made once and then copied, as many names may have the same
-/// type.
+/// Enters binders, each with its entry as text if there is a table for it. They come outermost first, so that each replaces an
+/// outer one of the same name. An underscore has no name. The text of a type is made once and then copied, as many names may
+/// have the same type.
 fn put_in_sight(
     alloc: Global,
     table: Option<&TyTable>,

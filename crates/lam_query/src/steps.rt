@@ -74,8 +74,8 @@ fn premise_places(scopes: &Scopes, place: Place, rule: TypeRule) -> &[Place]
     }
 }
 
-/// Appends the steps of the premises in order, and returns the index of the last step of each. They are about these subterms in
-/// turn, or about `place` itself.
+/// Appends the steps of the premises in order, and returns the index of the last step of each. The premises are about these
+/// subterms in turn, or about `place` itself.
 #[cycle(list_typing)]
 #[tactic(auto, using(lam_rules::proofs::TypingShapes::typing_nodes))]
 fn list_typings(

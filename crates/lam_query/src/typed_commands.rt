@@ -33,7 +33,7 @@ use std::slice;
 #[derive(Drop)]
 struct Stated<'a> {
     statement: InternedStatement<'a>,
-    /// Those of its written types, in text order.
+    /// The diagnostics of its written types, in text order.
     faults: Vec<TypeFault>,
     /// The context entries of the names in scope, outermost first.
     entries: Vec<Option<TyNo>>,

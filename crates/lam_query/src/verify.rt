@@ -1,7 +1,7 @@
 //! Verification of a derivation against its text.
 //!
 //! Whoever made the derivation is not trusted: the context must list the names that a term of the text sees, each with a type
-//! that it may have there, the steps are built into a proof tree that the proof checker accepts for that term, and the steps of
+//! that it may have there; the proof checker must accept the tree made of the steps as a proof for that term; and the steps of
 //! the tree, with the ranges of the term's parts, must equal those given. The first of these that fails is named.
 ghost use Rattle.std.specs.List.{AllZip};
 ghost use Rattle.std.specs.Prelude.{◌≡◌, ◌<◌, ◌↔◌, IsTrue, List, [], length, Some, None, map, IfOk, MatchOption, false};
@@ -54,7 +54,7 @@ struct Claim<'a> {
     proof: &'a TypeProof,
 }
 
-/// Returns the first error in a derivation, or `None` if it is about a term of the text.
+/// Returns the first error in a derivation, or `None` if it is a valid one about a term of the text.
 pub fn first_fault(
     alloc: Global,
     text: &str,

@@ -15,7 +15,7 @@ use Rattle.lam_query.specs.inner.PieceRows.{Sight, sight_with, AreTokensIn, IsEn
 use Rattle.lam_query.specs.inner.Reading.{AreRead}
 use Rattle.lam_query.specs.inner.Rows.{names_with, types_with, IsKeptOf}
 
--- its type checker is sound, and each type id that it keeps stands for a type
+-- its type checker is sound, each type id that it keeps stands for a type, and each name has a number of its own
 pub record IsSound (a : Analyst) : Type 0 where
   pub types : IsSoundChecker a.types
   pub stand : AllStand (types_in a.types) a.bound

@@ -102,7 +102,7 @@ found_among ts known names = entered (found_over ts known) (names_in names)
 abbrev pub IsListed : (ℕ → NameNo) → Meanings → List NameNo → Name → Type 0
 IsListed of m numbers x = (n : ℕ) × (number_of m x ≡ Some n) × Contains numbers (of n)
 
--- all names but those that are left have numbers, which are listed behind others
+-- all names but those that are left have numbers, which are listed along with those that were listed before
 pub record AreListed (of : ℕ → NameNo) (names left : List (Bor (List ℕ))) (old now : Meanings) (before numbers : List NameNo) : Type 0 where
   pub asked : (x : Name) → Contains (names_in names) x → Contains (names_in left) x ⊎ IsListed of now numbers x
   pub others : (n : NameNo) → Contains before n → Contains numbers n
@@ -110,7 +110,7 @@ pub record AreListed (of : ℕ → NameNo) (names left : List (Bor (List ℕ))) 
   pub same : (x : Name) → meaning_of now x ≡ meaning_of old x
   pub numbered : AreNumbered now
 
--- what is left of the names comes to all of them, behind those that were entered with their entries
+-- entering the names that are left, with their entries, gives the same now as entering all of them gave before
 pub record AreEntered (known : Meanings) (names left : List (Bor (List ℕ))) (old now : Surroundings) : Type 0 where
   pub names_all : (ts : List Typ) → names_onto (names_seen now.environment) (found_among ts known left) ≡ names_onto (names_seen old.environment) (found_among ts known names)
   pub entries_all : (ts : List Typ)

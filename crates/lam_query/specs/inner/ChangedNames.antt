@@ -15,12 +15,12 @@ abbrev pub is_changed : ChangedNames → NameNo → Bool
 is_changed c (number.Name n) = get_or c.names.items n true
 is_changed c (number.TypeName n) = get_or c.type_names.items n true
 
--- one mark for each entry of the list: whether the name of this number has another entry now
+-- one mark for each entry of the list: whether the name with its index as number has another entry now
 pub record AreDifferences (entries : List (Option (Option TyNo))) (now : Meanings) (marks : List Bool) : Type 0 where
   pub long : length marks ≡ length entries
   pub right : (n : ℕ) → n < length entries → (get_or marks n true ≡ false ↔ get_or entries n None ≡ kept_under now n)
 
--- a name is marked as changed or as unchanged, and no other mark is new
+-- a name is marked as changed or as unchanged, and all other marks stay as they are
 abbrev pub IsMarked : Option NameNo → Bool → ChangedNames → ChangedNames → Type 0
 IsMarked None changed old now = old ≡ now
 IsMarked (Some (number.Name n)) changed old now = (now.names.items ≡ set old.names.items n changed) × (now.type_names ≡ old.type_names)

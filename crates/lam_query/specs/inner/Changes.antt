@@ -18,7 +18,7 @@ abbrev pub IsMet : (ahead : List ℕ) (s : Sight) (text : List ℕ) (pieces : Li
 IsMet ahead s text pieces next a =
     ((next < length pieces) × IsReadTo ahead s text (joined (drop next pieces)) a) ⊎ ((next ≡ length pieces) × IsReadThrough ahead s text a)
 
--- The rows are those of the old text's pieces, of which the rest is counted; the common suffix of both texts has `common` bytes.
+-- The rows are those of the old text's pieces, and the bytes of those not passed are counted; both texts have a common suffix of `common` bytes.
 pub record AreOldPieces (old new : List ℕ) (pieces : List (List ℕ)) (b : OldPieces) : Type 0 where
   pub whole : old ≡ joined pieces
   pub lengths : AllZip (λ r p. r.end ≡ length p) (rows_of b.rows.now) pieces

@@ -36,7 +36,7 @@ abbrev pub entries_onto : Context → List (Name × Option Typ) → Context
 entries_onto g [] = g
 entries_onto g (p ∷ ps) = entries_onto (p.1 ∷ g) ps
 
--- abbreviations, for type names
+-- abbreviations with these type names pushed, each with what it stands for
 abbrev pub abbreviations_onto : List Abbreviation → List (Name × Option Typ) → List Abbreviation
 abbreviations_onto bs [] = bs
 abbreviations_onto bs (p ∷ ps) = abbreviations_onto (stands_for p.0 p.1 ∷ bs) ps

@@ -52,7 +52,7 @@ abbrev pub HasRoomFor : NameNo → Entries → Type 0
 HasRoomFor (number.Name n) e = n < length e.names.items
 HasRoomFor (number.TypeName n) e = n < length e.type_names.items
 
--- one more name has this entry; the numbers in bounds are the same
+-- one more name has this entry; the numbers that were in bounds still are
 pub record IsPassedWith (binds : Option NameNo) (entry : Option TyNo) (old now : Entries) : Type 0 where
   pub set : (name : NameNo) → binds ≡ Some name → HasRoomFor name old → meant now name ≡ Some entry
   pub others : (name : NameNo) → (binds ≡ Some name → ⊥) → meant now name ≡ meant old name

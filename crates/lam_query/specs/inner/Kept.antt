@@ -157,7 +157,7 @@ place_after p = span_after p.0 p.1
 abbrev pub fault_after : ℕ → Fault → Fault
 fault_after n f = record { code = f.code; span = span_after n f.span }
 
--- its offsets fit in 64 bits
+-- the offsets of a span fit in 64 bits
 abbrev pub Fits : Span → Type 0
 Fits s = (s.start < 2 ^ 64) × (s.end < 2 ^ 64)
 

@@ -36,13 +36,13 @@ pub record AreFields {commands : List CommandTree} {number : ℕ} (p : IsProject
   pub each : All (λ i. (t : Typ) × HasLeast p i.label t d × (i ≡ record { label = i.label; detail = Some (text t); is_field = true })) items
   pub every : (l : Label) (t : Typ) → HasLeast p l t d → Contains (map (λ i. i.label) items) l
 
--- these, or none if something before the projection is over the size limit
+-- these items, or none if something before the projection is over the size limit
 pub data AreListed : (commands : List CommandTree) (number : ℕ) → List Item → Dialect → Type 0 where
   fields : {commands : List CommandTree} {number : ℕ} {items : List Item} {d : Dialect} (p : IsProjection commands number)
       → IsSmallUpTo commands number d → AreFields p items d → AreListed commands number items d
   too_large : {commands : List CommandTree} {number : ℕ} {d : Dialect} → (IsSmallUpTo commands number d → ⊥) → AreListed commands number [] d
 
--- Those for commands without the label yet; none if a type of them is over the size limit.
+-- The same, given also the commands without the label: no items if a type of them is over the size limit.
 pub data AreListedFor : (commands others : List CommandTree) (number : ℕ) → List Item → Dialect → Type 0 where
   small : {commands others : List CommandTree} {number : ℕ} {items : List Item} {d : Dialect} → IsSmall commands d → AreListed others number items d → AreListedFor commands others number items d
   large : {commands others : List CommandTree} {number : ℕ} {d : Dialect} (s : Span) → IsSizeFault commands s d → AreListedFor commands others number [] d

@@ -25,14 +25,14 @@ trees_of stack = map (λ r. r.tree) stack
 abbrev pub lasts_of : List Rebuilt → List ℕ
 lasts_of stack = map (λ r. r.last) stack
 
--- whether these are those indices
+-- whether these are the indices of their last steps
 abbrev pub are_lasts : List Rebuilt → List ℕ → Bool
 are_lasts [] [] = true
 are_lasts [] (n ∷ ns) = false
 are_lasts (r ∷ rs) [] = false
 are_lasts (r ∷ rs) (n ∷ ns) = (r.last == n) && are_lasts rs ns
 
--- a stack without its topmost proofs, which are last in the list, and those, if their last steps have these indices
+-- a stack without its topmost proofs, which are last in the list, and those proofs, if their last steps have these indices
 abbrev pub taken_off : List Rebuilt → List ℕ → Option (List Rebuilt × List Rebuilt)
 taken_off stack ns =
     let below = length stack - length ns in
@@ -81,7 +81,7 @@ tree_of (rust.Sub q) = of_subtyping (sub_tree_of q)
 abbrev pub rebuilt_of : RustRebuilt → Rebuilt
 rebuilt_of r = record { last = r.last; tree = tree_of r.tree }
 
--- a stack of them
+-- a stack of `Rebuilt`
 abbrev pub stack_of : List RustRebuilt → List Rebuilt
 stack_of stack = map rebuilt_of stack
 

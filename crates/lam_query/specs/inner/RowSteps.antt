@@ -16,7 +16,7 @@ abbrev mutual
   row_proof t place (typing_step rule type premises side) =
       concludes (typing rule (place_row_numbered t place).span type) (with_side (row_proofs t place (premise_places t place rule) premises) side)
 
-  -- those of its premises: each is about the next of these terms, and about the place itself if none is left
+  -- the proofs of its premises: each is about the next of these terms, and about the place itself if none is left
   pub row_proofs : Table → (place : ℕ) → (terms : List ℕ) → TypingTrees → Proofs
   row_proofs t place terms no_typings = no_proofs
   row_proofs t place [] (typing_first p ps) = proof_first (row_proof t place p) (row_proofs t place [] ps)

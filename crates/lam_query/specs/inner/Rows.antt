@@ -78,7 +78,7 @@ pub record IsLargeTermAt (done : List CommandTree) (before : ℕ) (c : CommandTr
 abbrev pub own_fault : CommandTree → Blamed → Fault
 own_fault c b = fault_at b.code (place_row_numbered (table (c ∷ [])) b.number).span
 
--- together with the commands before it, these are the types and the terms at fault of all
+-- with those of the commands before this one, these are the types and the terms at fault of all of them
 pub record AreTypesFound (done : List CommandTree) (g : Context) (found : List (Option Typ)) (blames : List Blamed)
     (c : CommandTree) (ts : List Typ) (t : FoundTypes) (d : Dialect) : Type 0 where
   pub own : List Blamed
@@ -86,14 +86,14 @@ pub record AreTypesFound (done : List CommandTree) (g : Context) (found : List (
   pub checked : AreChecked (done ++ c ∷ []) (context_after g c (answer ts t.bound)) (found ++ answers ts t.types) (blames ++ renumbered (length found) own) d
   pub faults : t.faults ≡ map written_fault (faults_in (abbreviations_behind done) (written_in_command c)) ++ map (own_fault c) own
 
--- what was found for it after these commands
+-- what was found for a command after these commands
 abbrev pub IsFoundIn : (done : List CommandTree) (g : Context) (found : List (Option Typ)) (blames : List Blamed)
     → CommandTree → List Typ → Found → Dialect → Type 0
 IsFoundIn done g found blames c ts (written_too_large s) d = Unit {0}
 IsFoundIn done g found blames c ts (term_too_large s) d = IsLargeTermAt done (length found) c s d
 IsFoundIn done g found blames c ts (typed t) d = AreTypesFound done g found blames c ts t d
 
--- the type ids in it stand for types of the table
+-- the type ids in what was found stand for types of the table
 abbrev pub StandInFound : List Typ → Found → Type 0
 StandInFound ts (typed t) = AllStandIn ts t.types × StandsIfAny ts t.bound
 StandInFound ts f = Unit {0}

@@ -22,7 +22,7 @@ entries_seen ts bs = map (λ b. answer ts b.entry) bs
 abbrev pub AreBindersBehind : Front → List SeenBinder → Type 0
 AreBindersBehind f bs = names_behind f.commands ≡ reverse (map name_seen bs)
 
--- None of their types is over the size limit, these are their entries, and names mean this by them.
+-- No type of the commands up to a front is over the size limit, the binders have their entries, and names mean what these tell.
 pub record AreEntriesBehind (f : Front) (bs : List SeenBinder) (ts : List Typ) (d : Dialect) : Type 0 where
   pub found : List (Option Typ)
   pub blames : List Blamed

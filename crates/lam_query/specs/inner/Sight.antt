@@ -22,7 +22,7 @@ detail_seen types entry = option_and_then (λ ts. option_map text (answer ts ent
 abbrev pub detail_with : Option (List Typ) → Name → (before : Option (Option Text)) → SeenBinder → Option (Option Text)
 detail_with types x before b = if binds (name_seen b) x then Some (detail_seen types b.entry) else before
 
--- after several more, from the outside in
+-- the detail after several more binders, from the outside in
 abbrev pub detail_after : Option (List Typ) → Name → (before : Option (Option Text)) → List SeenBinder → Option (Option Text)
 detail_after types x before [] = before
 detail_after types x before (b ∷ bs) = detail_after types x (detail_with types x before b) bs

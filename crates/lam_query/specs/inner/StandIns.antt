@@ -44,7 +44,7 @@ written_entry None =
 abbrev pub declared : Name × Option Typ → CommandTree
 declared p = declaration (word p.0 nowhere) (written_entry p.1)
 
--- the abbreviation of a type name for this
+-- the abbreviation that gives a type name this meaning
 abbrev pub abbreviated : Name × Option Typ → CommandTree
 abbreviated p = abbreviation (word p.0 nowhere) (written_entry p.1)
 

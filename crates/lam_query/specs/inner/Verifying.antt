@@ -34,17 +34,17 @@ pub record IsOfSomeTerm (commands : List CommandTree) (derivation : Derivation) 
   pub inside : number < length (document_terms commands)
   pub is_proof : IsProofAt commands number derivation d
 
--- what is wrong with a derivation as one about this term; `None` if it is about it
+-- what is wrong with a derivation as one about this term; `None` if it is a valid one
 abbrev pub IsResultAt : PlacedTree → Derivation → Dialect → Option FirstFault → Type 0
 IsResultAt term x d None = IsProofOf term x d
 IsResultAt term x d (Some fault) = (IsProofOf term x d → ⊥) × IsFaultAt term x d fault
 
--- as one about a term of these commands
+-- what is wrong with a derivation as one about a term of these commands; `None` if it is a valid one
 abbrev pub IsResultIn : List CommandTree → Derivation → Dialect → Option FirstFault → Type 0
 IsResultIn commands x d None = IsOfSomeTerm commands x d
 IsResultIn commands x d (Some fault) = (IsOfSomeTerm commands x d → ⊥) × IsFaultIn commands x d fault
 
--- The relation holds of the elements before this index, one by one, and not of those there.
+-- The relation holds of each pair of elements before this index, and not of the pair there.
 pub record IsFirstNot {A B : Type 0} (R : A → B → Type 0) (xs : List A) (ys : List B) (number : ℕ) : Type 0 where
   pub inside : number < length xs
   pub before : AllZip R (take number xs) (take number ys)
