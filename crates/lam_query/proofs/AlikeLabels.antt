@@ -255,8 +255,8 @@ module _ (done pre : List CommandTree) (g h : Context) (c : CommandTree) (rest :
           lowest = is.lowest;
           alike = λ e long.
               let both : AreAlike (e ++ g) (project q.operand q.label) (e ++ h) (project p.operand p.label) =
-              subst (λ t. AreAlike (e ++ g) (project q.operand q.label) (e ++ h) t) p.free_numbers
-              (subst (λ t. AreAlike (e ++ g) t (e ++ h) (place_in Alone n).here) q.free_numbers (is.alike e long)) in
+              subst (λ t. AreAlike (e ++ g) (project q.operand q.label) (e ++ h) t) p.asked
+              (subst (λ t. AreAlike (e ++ g) t (e ++ h) (place_in Alone n).here) q.asked (is.alike e long)) in
               (both.0, refl);
           same = same_bare (tree_in (document_terms Whole) (before + n)) (project q.operand l) ∙ is.same
               ∙ sym (same_bare (tree_in (document_terms Alone) n) (project p.operand l));

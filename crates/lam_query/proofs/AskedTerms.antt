@@ -153,7 +153,7 @@ projection_of cs (suc n) s lt is =
     record {
       operand = (place_in cs n).here;
       label = found.1;
-      free_numbers = ap (λ p. p.here) place;
+      asked = ap (λ p. p.here) place;
       before = n;
       is_next = refl;
       operand_there = λ i. record { scope = (sym place i).scope; here = (place_in cs n).here };

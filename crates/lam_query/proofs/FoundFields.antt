@@ -91,7 +91,7 @@ inside cs n p = by (cases_lt n (length (document_terms cs)))
     by (inl lt) = let same = length-map (document_terms cs) (λ t. (term_of t).place) in omega arith
     by (inr le) =
         let past : unit_term ≡ (place_in cs n).here = sym (ap (λ t. (term_of t).place.here) (get_or_past (document_terms cs) n (tree_in [] 0) le)) in
-        let no_way : unit_term ≡ project p.operand p.label = past ∙ p.free_numbers in
+        let no_way : unit_term ≡ project p.operand p.label = past ∙ p.asked in
         cc
 
 least_before : (cs : List CommandTree) (n m : ℕ) (p : IsProjection cs n) (os : List (Option Typ)) (d : Dialect) → suc m ≡ n

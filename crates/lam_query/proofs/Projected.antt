@@ -78,7 +78,7 @@ module _ (text : List ℕ) (tokens : List Lexeme) (o : ℕ) (t : Lexeme) (are : 
     pub projection : IsProjection cs n
     projection =
         let own = changed one_label in
-        record { operand = own.operand; label = own.label; free_numbers = own.asked; before = own.number; is_next = own.is_next; operand_there = own.operand_there }
+        record { operand = own.operand; label = own.label; asked = own.asked; before = own.number; is_next = own.is_next; operand_there = own.operand_there }
 
     pub projected : (l : Label) → IsProjected tokens o l
     projected l = record {
@@ -98,7 +98,7 @@ module _ (text : List ℕ) (tokens : List Lexeme) (o : ℕ) (t : Lexeme) (are : 
     asking l = record { scope = (place_in cs n).scope; here = project projection.operand l }
 
     one_operand : (l : Label) → (changed l).operand ≡ projection.operand
-    one_operand l = let both : project (changed l).operand (changed l).label ≡ project projection.operand projection.label = sym (changed l).asked ∙ projection.free_numbers in cc
+    one_operand l = let both : project (changed l).operand (changed l).label ≡ project projection.operand projection.label = sym (changed l).asked ∙ projection.asked in cc
 
     asks_label : (l : Label) (h : IsProjected tokens o l) → place_in h.commands h.number ≡ asking l
     asks_label l h =
@@ -138,7 +138,7 @@ module _ (text : List ℕ) (tokens : List Lexeme) (o : ℕ) (t : Lexeme) (are : 
 
     same_fields : (p : IsProjection cs n) (items : List Item) (d : Dialect) → AreFields p items d → AreFields projection items d
     same_fields p items d are_fields =
-        let both : project p.operand p.label ≡ project projection.operand projection.label = sym p.free_numbers ∙ projection.free_numbers in
+        let both : project p.operand p.label ≡ project projection.operand projection.label = sym p.asked ∙ projection.asked in
         let same : p.operand ≡ projection.operand = cc in
         let here : (l : Label) → project p.operand l ≡ project projection.operand l = λ l. ap (λ e. project e l) same in
         let scope = (place_in cs n).scope in record {

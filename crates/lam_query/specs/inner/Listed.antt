@@ -21,7 +21,7 @@ use Rattle.lam_query.specs.inner.Entered.{type_name_bound}
 pub record IsProjection (commands : List CommandTree) (number : ℕ) : Type 0 where
   pub operand : Term
   pub label : Label
-  pub free_numbers : (place_in commands number).here ≡ project operand label
+  pub asked : (place_in commands number).here ≡ project operand label
   pub before : ℕ
   pub is_next : number ≡ suc before
   pub operand_there : place_in commands before ≡ record { scope = (place_in commands number).scope; here = operand }
