@@ -1,4 +1,4 @@
-"""Sessions that a function tells, in place of the lines of a row. Their documents are single lines."""
+"""Sessions that are told by function calls instead of the lines of a row. Their documents are single lines."""
 
 from client import Script, entry, item, published
 from read import Row, Words

@@ -71,7 +71,7 @@ def prove(name, jobs):
 
 
 def seconds_left(below, done, cores):
-    """A guess: as long as the processors need for all crates that are left, or two of them for the longest chain of these."""
+    """A guess: the time that the processors need for all crates that are left, or that two of them need for the longest chain of these."""
     work = {it: 0 if it in done else MINUTES[it] for it in needed(below)}
     return 60 * max(sum(work.values()) / cores, max(chains(below, work).values()) / min(2, cores))
 

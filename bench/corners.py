@@ -9,7 +9,7 @@ import sys
 
 from session import Client
 
-# What is asked of each text, beside that it is opened, and what the request needs beside a position.
+# What is asked of each text, besides that it is opened, and what the request needs besides a position.
 QUESTIONS = {
     "textDocument/hover": {},
     "textDocument/definition": {},

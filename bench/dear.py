@@ -1,6 +1,6 @@
 #!/usr/bin/env python3
 """dear.py [NAME..]: proves crates from nothing, one process each, and prints the minutes of processor time of each and their twenty
-dearest functions. Without names it is all crates, which takes the better part of an hour.
+costliest functions. Without names it proves all crates, which takes the better part of an hour.
 
 A checked module is kept as a file when it is done, so in a run of one process the gap before a file is what its module took. A
 function stands for all modules that are made of it, and a cycle of functions for one. The kept work of a crate is made anew.

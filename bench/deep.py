@@ -13,7 +13,7 @@ URI = "file:///a"
 TOKENS = 2000
 LEVELS = 4095
 
-# Those that the program answers with 8 MiB of stack and, so far, not with 4, the last two only where Rattle's own compiler built it.
+# The texts that the program answers with 8 MiB of stack but, so far, not with 4, the last two only if Rattle's own compiler built it.
 LARGE = ("application to the left", "parentheses in a term that stay open", "application of a numeral")
 
 # Terms that stand in a layer as they are written. There `!` says that what stands before it is the first term of a letrec, which is read
@@ -187,12 +187,12 @@ def by_names(before, after, count, letter, core):
 
 # Terms in terms.
 
-# What is written round a term to make the next one, and its rule and type.
+# What is written around a term to make the next one, and its rule and type.
 Layer = collections.namedtuple("Layer", "before after rule ty")
 
 
 def nested(title, *layers, ty="Nat", names=None, parentheses=0, before="", seen=(), binds=(), dialect="1"):
-    """These layers round one another, as often as they have room; innermost stands `y.a`, of the type `ty`, in so many parentheses.
+    """These layers around one another, as often as they have room; innermost stands `y.a`, of the type `ty`, in so many parentheses.
 
     Where the type of a layer is not always the same it is made of its level, from 1 for the innermost, and of how many there are; so is
     `ty`, and `names` gives the commands by which it is written. `before` are more commands, whose entries are `seen`, and `binds` are
@@ -234,13 +234,13 @@ def operator(word, rule):
 
 
 def application(title, before, after, **more):
-    """Of a function with as many parameters as it has arguments."""
+    """An application of a function to as many arguments as it has parameters."""
     layer = Layer(before, after, "T-App", lambda level, depth: arrows(depth - level))
     return nested(title, layer, ty=arrows, **more)
 
 
 def type_names(before, after):
-    """Of a number of levels the commands that name the type with so many layers round Nat, and its name."""
+    """For a number of levels, the commands that name the type with so many layers around Nat, and its name."""
     return lambda depth: by_names(before, after, depth, "Y", "Nat")
 
 
@@ -279,7 +279,7 @@ def terms():
 
 
 def in_lambda(title, before, after, shown):
-    """A lambda whose written type is so many layers round a type name."""
+    """A lambda whose written type is so many layers around a type name."""
     depth = (TOKENS - tokens("lambda y:Y0. y")) // tokens(before + after)
     ty = shown(depth)
     writer = Writer("Y0 = Nat; ")

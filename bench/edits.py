@@ -32,20 +32,20 @@ from play import built
 from texts import ENCODINGS, LINE_END, edited, units
 from texts_at_random import NAMES, TOKENS, TYPE_NAMES, Writer, document, doubled, laid_out
 
-# How many edits a session has. In one of so many its documents are long: there it types so many commands that it makes all anew.
+# How many edits a session has. In one of so many sessions the documents are long: it types so many commands that it starts from scratch.
 LENGTH = 100
 LONG = 5
 
-# At so many places a type is asked for, at two of them all else.
+# A type is asked for at so many places, everything else at two of them.
 PLACES = 8
 
-# A text is opened in a process of its own behind one edit in so many.
+# After one edit in so many the text is opened in a process of its own.
 APART = 40
 
 # A longer text is given up for another one.
 LONGEST = 20_000
 
-# What is answered about is called so in every session; the other document has a name as long.
+# The edited document is called so in every session; the name of the other document is as long.
 EDITED, ANEW = "file:///edited", "file:///opened"
 
 WORD = re.compile(r"[^\W\d][\w']*")
@@ -79,7 +79,7 @@ def ranged(start, end, text):
 
 
 def between(old, new):
-    """Which characters of the old text the new one has not, and what it has in their place."""
+    """Which characters of the old text the new one lacks, and what it has in their place."""
     start = len(os.path.commonprefix([old, new]))
     rest = len(os.path.commonprefix([old[start:][::-1], new[start:][::-1]]))
     return start, len(old) - rest, new[start : len(new) - rest]
@@ -223,7 +223,7 @@ class Editor:
         return [(*one.span(), self.random.choice((*likes, self.random.choice(NAMES), self.random.choice(TYPE_NAMES))))]
 
     def double(self, text):
-        """Lets a type come or go that is about as large as types may be."""
+        """Adds or removes a type that is about as large as types may be."""
         found = [it.span() for it in re.finditer(r"(?<=[=:{,])\s*(T|x)\d+\b", text)]
         at, kind = self.random.choice(self.pieces(text))[0], self.random.randrange(5)
         if not found or kind == 0:

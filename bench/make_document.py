@@ -1,4 +1,4 @@
-"""make_document.py [COMMANDS]: prints a well typed document, a command a line, always the same one.
+"""make_document.py [COMMANDS]: prints a well-typed document, a command a line, always the same document.
 
 A third of the commands are lets, a third functions, a third records, in random order, and each
 uses names of earlier ones. Without a number there are 10,000, some 400 KB.

@@ -37,7 +37,7 @@ from running import Running
 REFUSED = "ended with status 5 and F7 Memory"
 ANSWERED = "answered as with ample memory"
 
-# In which ways an allocation is refused, and up to which one all are, later than any.
+# The ways in which an allocation is refused, each with the last one that is refused; the second way ends later than any allocation.
 WAYS = (("alone", lambda number: number), ("with all later ones", lambda number: 1 << 62))
 
 # How many wrong ends of one session are told.

@@ -53,7 +53,7 @@ ROOM = 4096
 AMPLE = 64 << 20
 STACKS = (8 << 20, 4 << 20)
 
-# A signal that is to come while the program works may come too late, where others work beside it: so often it is tried.
+# A signal that is to come while the program works may come too late if others work at the same time: it is tried so often.
 TRIES = 10
 
 

@@ -1,4 +1,4 @@
-"""Random documents of the language, and single commands: well typed and faulty ones, chains, stars, long ones, and those at a limit."""
+"""Random documents of the language, and single commands: well-typed and faulty ones, chains, stars, long ones, and those at a limit."""
 
 import functools
 import glob
@@ -50,7 +50,7 @@ def is_below(lower, upper):
 
 
 class Writer:
-    """Writes commands, which use the names of those before. Of so many terms in a hundred the type is any other than it should be."""
+    """Writes commands, which use the names of those before. So many terms in a hundred have another type than they should."""
 
     def __init__(self, random, faulty=0):
         self.random, self.faulty = random, faulty

@@ -75,8 +75,8 @@ class File:
 
 
 def declared(block):
-    """The names that a block declares: of its definitions and of their cases. A record has its own alone: who asks for a part of it has
-    the record from a definition."""
+    """The names that a block declares: of its definitions and of their cases. A record declares only its own name:
+    whoever names a part of it has the record from a definition."""
     lines = block[:1] if RECORD.match(block[0]) else block
     found = (NAMED.match(line) for line in lines if DECLARES.match(line))
     return {it[1] for it in found if it} - {"mutual"}

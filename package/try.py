@@ -1,5 +1,5 @@
 #!/usr/bin/env python3
-"""try.py ROOT: installs both packages of dist/ into a Debian 12 that has Neovim and nothing else beside its base, and tries them there.
+"""try.py ROOT: installs both packages of dist/ into a Debian 12 that has Neovim and nothing else besides its base, and tries them there.
 
 Where the folder ROOT is not there yet debootstrap makes it, in a minute or two; the script runs as root. Of each package the program plays
 all of rows/, and Neovim, with a home that is empty, opens a file and has to show a diagnostic and a type.

@@ -41,7 +41,7 @@ REFUSALS = {
     "new name is of the wrong kind": -32602,
     "binding would change": -32803,
 }
-# How the marks are written of which something is asked or that change something.
+# How the marks are written that ask or change something.
 SIGNS = {
     "hover": r"~*\^~*",
     "why": r"~*\^~*",

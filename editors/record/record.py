@@ -46,7 +46,7 @@ NEOVIM_KEYS = [
     "u", "dd", "kP",  # moves a line
     ":%s/Nat/Bool/g\r", "u",  # replaces in many places
     "Go", PASTED, ESCAPE,
-    "gg", "f😀", "xp",  # swaps the emoji and its neighbour
+    "gg", "f😀", "xp",  # swaps the emoji and its neighbor
     "Gdk", "u", "u", "\x12",
     "Gop = {b=true, a=0};", ESCAPE, "ov = p.;", "\x1b[D", "\x18\x0f", "\x0e\x19", ESCAPE,  # takes what is listed behind a dot
     "Go", "w = f", "\x18\x0f", ESCAPE,
@@ -67,7 +67,7 @@ EMACS_KEYS = [
     "\x1b<", "\x1b%Nat\rBool\r!",  # replaces in many places
     "\x1f",
     "\x1b>\r", PASTED,
-    "\x1b<", "\x13😀\r", "\x14",  # swaps the emoji and its neighbour
+    "\x1b<", "\x13😀\r", "\x14",  # swaps the emoji and its neighbor
     "\x1b>\x10", "\x1b;", "ümlaut", "\x0b", "\x1f",
     "\x1b>p = {b=true, a=0};\rv = p.;", "\x02", "\x1b\t", "\x181", "b\x05\r",  # lists what can stand behind a dot
     "w = f", "\x1b\t", "\x181", "\r",

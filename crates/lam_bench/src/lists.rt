@@ -24,7 +24,7 @@ pub enum Cursor {
 pub enum Asked {
     /// An existing analysis of the document.
     Analysis,
-    /// The free function, which analyses the text.
+    /// The free function, which analyzes the text.
     Text,
 }
 

@@ -45,7 +45,7 @@ module _ (text : List ℕ) (value : Data) (d : Dialect) where
   abbrev pub IsProof : Type 0
   IsProof = (sent : IsVerifiedValue text value d) × IsReadable text sent.derivation
 
-  -- one that is not verified is the only readable derivation of its value
+  -- if a readable derivation of the value is not verified, none is: the value has no other one
   pub no_proof : (x : Derivation) → IsUtf8 text → value ≡ derivation_value Utf16 text (Some x) → IsReadable text x → (IsSound text x d → ⊥) → IsProof → ⊥
   no_proof x utf8 is readable not_sound proof =
       let same = one_readable Utf16 text utf8 proof.0.derivation x proof.1 readable (sym proof.0.is_value ∙ is) in

@@ -8,14 +8,14 @@ use Rattle.lam_check.specs.Lines.{wide, zero_width, is_in_ranges, columns, colum
 use Rattle.lam_check.proofs.LineEnds.{chars_few}
 use Rattle.lam_check.proofs.Writing.{next_char}
 
--- the next number, and those behind it, are the numbers that were left
+-- the sum so far with the next summand, and the sum of those behind it, are still the total
 pub sum_more : (f : ℕ → ℕ) (so_far total : ℕ) (cs : List ℕ) (n c : ℕ) → (n < length cs) × (c ≡ get_or cs n c)
     → so_far + sum_by f (drop n cs) ≡ total → so_far + f c + sum_by f (drop (n + 1) cs) ≡ total
 sum_more f so_far total cs n c h all =
     let next = ap (sum_by f) (next_char cs n c h) ∙ sum_by-cons f c (drop (n + 1) cs) in
     omega (arith, next, all)
 
--- where none is left, the sum is that of all
+-- if none is left, the sum so far is the total
 pub sum_all : (f : ℕ → ℕ) (so_far total : ℕ) (cs : List ℕ) (n : ℕ) → length cs ≤ n → so_far + sum_by f (drop n cs) ≡ total → so_far ≡ total
 sum_all f so_far total cs n past all =
     let none = ap (sum_by f) (drop_all n cs past) in

@@ -89,7 +89,7 @@ no_cr [] k plain cr = absurd (omega arith)
 no_cr (b ∷ bytes) zero plain cr = true≢false (sym (eq-eqb b 13 cr) ∙ (plain_tests b (and_parts (is_plain b) (list_all is_plain bytes) plain).0).1)
 no_cr (b ∷ bytes) (suc k) plain cr = no_cr bytes k (and_parts (is_plain b) (list_all is_plain bytes) plain).1 cr
 
--- after a line end that a CR ends no LF follows
+-- no LF follows a line end whose last byte is a CR
 no_lf_after : (bytes : List ℕ) (ending : LineEnd) (after : List ℕ) → EndStands ending after
     → get_or (bytes ++ (end_bytes ending ++ after)) (length (bytes ++ end_bytes ending) - 1) 0 ≡ 13 → get_or after 0 0 ≡ 10 → ⊥
 no_lf_after bytes CrLf after stands cr lf =

@@ -15,7 +15,7 @@ kept_more was now total cs depth before n c h is all =
 pub kept_all : (was total cs : List ℕ) (depth before n : ℕ) → length cs ≤ n → was ++ uncommented depth before (drop n cs) ≡ total → was ≡ total
 kept_all was total cs depth before n past all = sym (append-nil was) ∙ rw (drop_all n cs past) at all
 
--- one comment more at most
+-- a character opens one more comment at most
 pub next_depth_small : (depth before c : ℕ) → next_depth depth before c ≤ depth + 1
 next_depth_small depth before c = by (is_opening before c) (is_closing before c)
   where

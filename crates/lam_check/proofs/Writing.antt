@@ -21,7 +21,7 @@ chars_more f was now total cs n c h is all =
     let rest = encode_utf8_all (map f (drop (n + 1) cs)) in
     ap (λ text. text ++ rest) is ∙ (append_assoc was (encode_utf8 (f c)) rest ∙ (ap (λ ds. was ++ encode_utf8_all (map f ds)) (sym (next_char cs n c h)) ∙ all))
 
--- where none is left, what is written is all
+-- if none is left, what is written is all
 pub chars_all : (f : ℕ → ℕ) (was total cs : List ℕ) (n : ℕ) → length cs ≤ n → was ++ encode_utf8_all (map f (drop n cs)) ≡ total → was ≡ total
 chars_all f was total cs n past all = sym (append-nil was) ∙ rw (drop_all n cs past) at all
 

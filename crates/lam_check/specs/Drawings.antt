@@ -78,11 +78,11 @@ before forms.Text text depth role c = replicate (2 * depth) 32 ++ claim_text tex
 before forms.Html text depth role c = html_head text role c
 before forms.Latex text depth role c = []
 
--- bussproofs draws a step from at most five premises: of more, five are repeatedly combined into one, this many times
+-- bussproofs draws a step from at most five premises: if there are more, five are combined into one, this many times
 abbrev pub packs : ℕ → ℕ
 packs n = (n - 2) / 4
 
--- how many premises remain then
+-- how many premises remain after that
 abbrev pub left : ℕ → ℕ
 left n = n - 4 * packs n
 

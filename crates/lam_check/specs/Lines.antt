@@ -60,6 +60,6 @@ shown_line line = encode_utf8_all (map shown (chars line))
 abbrev pub blanks : (count : ℕ) → List ℕ → Text
 blanks count line = flat_map blank (take count (chars line))
 
--- so many marks
+-- this many marks
 abbrev pub marks : (count : ℕ) → Text
 marks count = replicate count 94

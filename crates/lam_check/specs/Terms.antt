@@ -83,7 +83,7 @@ closing roles.Other = []
 closing (roles.Bound whole) = codes ")"
 closing (roles.Fixed whole) = []
 
--- a term, behind the binder if it is a derived one
+-- a term, with the binder before it and the rest around both if it is a derived one
 abbrev pub derived : Role → Option Text → Text → Text
 derived role None term = term
 derived role (Some binder) term = opening role ++ binder ++ codes ". " ++ term ++ closing role

@@ -81,7 +81,7 @@ fn words<R: AllocGlobal + Env>(rt: &R) -> io::Result<Vec<String>> {
     Ok(env::args(rt)?.collect(rt.alloc())?)
 }
 
-/// Returns whether to use colours: only on a terminal, and not if `NO_COLOR` is set and not empty.
+/// Returns whether to use colors: only on a terminal, and not if `NO_COLOR` is set and not empty.
 fn paint_for<R: AllocGlobal + Env>(rt: &R, terminal: bool) -> Paint {
     if !terminal {
         return Paint::Plain;

@@ -196,7 +196,7 @@ fn uncommented(alloc: Global, text: &str) -> Result<String, AllocError>
     Ok(out)
 }
 
-/// Appends what is kept of a character where so many comments are open.
+/// Appends what is kept of a character when this many comments are open.
 fn push_kept(out: &mut String, depth: usize, before: char, c: char) -> Result<(), AllocError>
     ensures { OnOk result (string_bytes out.new ≡ string_bytes out.old ++ kept depth before c) }
 {

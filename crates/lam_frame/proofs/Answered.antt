@@ -1,4 +1,4 @@
--- What a chain of pulls and the answer after it make of a call.
+-- What a call does, by its chain of pulls and the answer after it.
 use Rattle.std.proofs.Common.{◌≡◌, ◌<◌, length, drop, ℕ, ◌+◌, ◌^◌, List, [], ◌∷◌, ◌++◌, Option, Some, None, Result, Ok, Err, refl, sym, ap, ◌∙◌, subst, arith, length-append}
 use Rattle.lam_frame.specs.Device.{SourceView}
 use Rattle.lam_frame.specs.declared.fault.FrameFault.{FrameFault}

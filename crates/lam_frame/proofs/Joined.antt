@@ -12,18 +12,18 @@ use Rattle.lam_frame.specs.Next.{Reads, After, PulledWhile, Says, IsCutOff}
 use Rattle.lam_frame.specs.inner.Steps.{HeaderIsRead, SaysBody, SaysHeader}
 use Rattle.lam_frame.proofs.Pulls.{PulledWhile-append, PulledWhile-front, EndsEmpty-behind, not_ended_behind, stopped_behind}
 
--- the header part that is read, and then any part of its body
+-- the header part that is read, and then not all of its body: the bytes are open
 body_open : (heard held part : List ℕ) (size : ℕ) (h : HeaderIsRead heard size held) → length part < size → IsOpen (header_text h.lines ++ part)
 body_open heard held part size h less =
     InBody h.lines part size (record { are_lines = h.header.are_lines; text = refl; fits = h.header.fits }) h.says less
 
 module _ {V : Type 0} (items : V → List ℕ) where
-  -- the same answer, where it was a fault of reading the body, or the body
+  -- the answer of a call, from that of reading the body
   abbrev pub with_body : Result V FrameFault → Result (Option V) FrameFault
   with_body (Ok body) = Ok (Some body)
   with_body (Err fault) = Err fault
 
-  -- and where it was the clean end or a fault of reading the header part
+  -- what a fault of reading the header part says, it says as the answer of a call
   says_header : (heard : List ℕ) (pieces : List (List ℕ)) (fault : FrameFault) (held : List ℕ) → SaysHeader heard pieces (Err fault) held → Says items heard pieces (Err fault) held
   says_header heard pieces NoLength held h = h.0
   says_header heard pieces BadLength held h = h.0

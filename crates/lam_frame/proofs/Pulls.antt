@@ -43,7 +43,7 @@ pub not_ended_behind : (front back : List (List ℕ)) → NoneEmpty front → (E
 not_ended_behind front [] f b e = not_ended front f (subst EndsEmpty (append-nil front) e)
 not_ended_behind front (x ∷ back) f b e = b (same_last front x back e.0 e.1)
 
--- pulls while P, from these bytes held and this source to these bytes heard and that source
+-- pulls while P holds, from these bytes held and this source to these bytes heard and that source
 pub record Pulling {S : Type 0} (from : SourceView S) (P : List ℕ → Type 0)
     (held : List ℕ) (pulls : ℕ) (source : S) (heard : List ℕ) (count : ℕ) (last : S) : Type 0 where
   pub pieces : List (List ℕ)
@@ -81,7 +81,7 @@ module _ {S : Type 0} (from : SourceView S) where
     ),
   )
 
-  -- what holds behind some bytes, holds with them in front
+  -- pulls while P are pulls while Q with some bytes in front, if P of the bytes heard gives Q of both
   pub PulledWhile-front : (P Q : List ℕ → Type 0) (front held : List ℕ) (source last : S) (pieces : List (List ℕ)) → ((heard : List ℕ) → P heard → Q (front ++ heard))
       → PulledWhile from P held source pieces last → PulledWhile from Q (front ++ held) source pieces last
   PulledWhile-front P Q front held source last [] into p = p

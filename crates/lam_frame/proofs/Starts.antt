@@ -1,4 +1,4 @@
--- Bytes begin with a header part, or with one that is not over, or with one that is spoiled: only one of these.
+-- Bytes begin with a header part, or with one that is not complete, or with one that is spoiled: only one of these.
 use Rattle.std.proofs.Common.{◌≡◌, ◌≤◌, ◌<◌, ◌⊎◌, inl, inr, length, drop, ℕ, Bool, true, false, not, ◌==◌, cond, if◌then◌else◌, List, [], ◌∷◌, ◌++◌, Result, Ok, Err, refl, sym, ap, ◌∙◌, subst, arith, append_assoc, append-nil, length-append}
 use Rattle.std.specs.List.{list_all, list_any, filter}
 use Rattle.std.proofs.lemmas.Bool.Decides.{nat_tests}
@@ -24,7 +24,7 @@ with_lines front (Whole lines after) = Whole (front ++ lines) after
 with_lines front Open = Open
 with_lines front Wrong = Wrong
 
--- the lines, where `line` has come of the first, and then perhaps a CR
+-- the lines of the bytes, if `line` was already read of the first one, and then perhaps a CR
 abbrev read : Bool → List ℕ → List ℕ → Lines
 read return line [] = Open
 read false line (b ∷ bs) = if is_header_byte b then read false (line ++ b ∷ []) bs else (if b == 13 then read true line bs else Wrong)
@@ -145,7 +145,7 @@ IsSpoiled-more bytes more s = record {
       ∙ ap (λ (l : List ℕ). ended_lines s.lines ++ l) (append_assoc s.part s.rest more);
 }
 
--- a front of bytes that is no longer than another front is a front of that
+-- of two fronts of the same bytes, one that is no longer than the other is a front of it
 pub front_within : (front window rest after : List ℕ) → window ++ rest ≡ front ++ after → length front ≤ length window → (middle : List ℕ) × (window ≡ front ++ middle)
 front_within [] window rest after e h = (window, refl)
 front_within (b ∷ front) [] rest after e h = absurd (omega arith)

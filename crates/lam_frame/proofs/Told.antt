@@ -51,7 +51,7 @@ module _ {V : Type 0} (items : V → List ℕ) where
   answers heard pieces (Err TooLong) held left s end = HasFault-more heard left TooLong s
   answers heard pieces (Err BadHeader) held left s end = HasFault-more heard left BadHeader s
 
-  -- nothing is left of what was told
+  -- if the bytes to come were told before, none are left
   abbrev EndsWhereTold : Option (List ℕ) → Option (List ℕ) → Type 0
   EndsWhereTold None left = Unit {0}
   EndsWhereTold (Some xs) left = IsAtEnd left

@@ -1,4 +1,4 @@
--- Going along a header part line by line: what stands behind the cursor, and how it ends.
+-- Going along a header part line by line: what was read so far, and how it ends.
 use Rattle.std.proofs.Common.{◌≡◌, ◌<◌, length, drop, ℕ, ◌-◌, Bool, true, false, not, ◌||◌, cond, nat_lt, List, [], ◌∷◌, ◌++◌, Result, Ok, Err, refl, sym, ap, ◌∙◌, subst, arith, append_assoc, append-nil, length-append, length-drop, length-take, take-append-drop}
 use Rattle.std.specs.List.{list_any, filter, prefix_len, after_first}
 use Rattle.std.specs.Str.Parse.{digits_value}
@@ -29,7 +29,7 @@ plain_part_is_plain bytes =
     (λ k d h. let below : k < prefix_len is_header_byte bytes = omega (arith, length-take (prefix_len is_header_byte bytes) bytes) in
     ap is_header_byte (get_or-take _ _ _ _ below) ∙ prefix_len_passes is_header_byte bytes k d below)
 
--- a length in digits is no fault of too few or too many lines
+-- after one line that gives the length another one is an error, whatever the first one gave
 second_length : (numeral long : Bool) (n : ℕ) (value : List ℕ) → with_length_of (cond numeral (cond long (Err TooLong) (Ok n)) (Err BadLength)) value ≡ Err BadLength
 second_length true true n value = refl
 second_length true false n value = refl
@@ -59,7 +59,7 @@ body_length-push lines line =
 
 -- ---- the walk
 
--- some lines are behind the cursor, and say so much
+-- some lines were read, which give this as the length of the body
 pub record Walked (bytes rest : List ℕ) (body : Result ℕ FrameFault) : Type 0 where
   pub lines : List (List ℕ)
   pub are_lines : AreLines lines

@@ -15,7 +15,7 @@ use Rattle.lam_frame.proofs.Lines.{pow_more}
 
 -- ---- digits
 
--- of a number of two digits or more, of which there are at most k
+-- without its last digit, a number of two to k digits has one digit less
 pub one_digit_less : (n k : ℕ) → 10 ≤ n → n < 10 ^ k → (2 ≤ k) × (n / 10 < 10 ^ (k - 1))
 one_digit_less n zero h l = absurd (omega arith)
 one_digit_less n (suc zero) h l = absurd (omega arith)
@@ -42,7 +42,7 @@ last_digit room tail number rest start h some within e =
 
 -- ---- pushes
 
--- all but this rest of the bytes was taken, and nothing failed
+-- all but this rest of the bytes was taken
 pub record Pushed (old new : Option (List ℕ)) (bytes rest : List ℕ) : Type 0 where
   pub front : List ℕ
   pub split : bytes ≡ front ++ rest

@@ -1,4 +1,4 @@
--- What is found of two numbers is an answer that may be kept of them.
+-- The join or the meet that is found for two numbers is an answer that may be kept for them.
 use Rattle.std.proofs.Common.{◌≡◌, ◌<◌, List, length, sym, subst, Option, IfSome, IfNone}
 use Rattle.lam_rules.specs.Types.{Typ}
 use Rattle.lam_rules.specs.Numbers.{type_of, Stands, Keeps}

@@ -49,4 +49,4 @@ arrows_no_meet s1 s2 t1 t2 d none = λ u a b.
     let is = below_arrow_is u s1 s2 d a in
     none is.1 is.4 (arrow_inside is.0 is.1 t1 t2 d (subst (λ v. IsBelow v (arrow t1 t2) d) is.2 b)).1
 
--- the parts of a type that is told to be an arrow
+-- the parts of a type that is known to be an arrow

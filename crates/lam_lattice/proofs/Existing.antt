@@ -1,4 +1,4 @@
--- Each two types have a join, and a meet or nothing below both.
+-- Every two types have a join, and a meet or nothing below both.
 use Rattle.std.proofs.Common.{◌≡◌, ◌⊎◌, refl, inl, inr, subst}
 use Rattle.lam_rules.specs.Types.{Label, Typ, bool, nat, unit, top, arrow, record_of, Fields, no_fields, field, Has, IsAbsent, joined, IsWellFormed, AreWellFormed}
 use Rattle.lam_rules.specs.Subtyping.{IsBelow}
@@ -30,7 +30,7 @@ turned s t d below = record { join = (s, join_below s t d below); meet = inl (t,
 apart : (s t : Typ) (d : Dialect) → IsWellFormed s → IsWellFormed t → AreUnlike s t → (IsBelow s t d → ⊥) → (IsBelow t s d → ⊥) → HaveBounds s t d
 apart s t d ws wt unlike n m = record { join = (top, join_unlike_top s t d ws wt unlike n m); meet = inr (no_meet_unlike s t d ws wt unlike n m) }
 
--- each shape beside each other
+-- each pair of shapes
 
 abbrev Bounded : Typ → Type 0
 Bounded s = (t : Typ) (d : Dialect) → IsWellFormed s → IsWellFormed t → HaveBounds s t d
@@ -103,7 +103,7 @@ bounds_arrow s1 s2 b1 b2 (arrow t1 t2) d ws wt = both (b1 t1 d ws.0 wt.0) (b2 t2
     both : HaveBounds s1 t1 d → HaveBounds s2 t2 d → HaveBounds (arrow s1 s2) (arrow t1 t2) d
     both parameters outcomes = record { join = join_of parameters outcomes parameters.meet; meet = meet_of parameters outcomes outcomes.meet }
 
--- two lists of fields, the types of each label of the first having bounds beside any type
+-- two lists of fields, where each type in the first has bounds with any type
 
 abbrev EachBounded : Fields → Type 0
 EachBounded fs = (l : Label) (s : Typ) → Has l s fs → Bounded s

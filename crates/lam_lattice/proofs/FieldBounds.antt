@@ -27,7 +27,7 @@ Joins d s t j = IsJoin s t j d
 abbrev pub Meets : Dialect → Typ → Typ → Typ → Type 0
 Meets d s t m = IsMeet s t m d
 
--- joins: each field made is the join of a field of each side ..
+-- joins: each field made is the join of a field of each list ..
 
 joined_from : (d : Dialect) (gs fs hs : Fields) → AreJoined (Joins d) gs fs hs → (l : Label) (j : Typ) → Has l j hs
     → (s : Typ) × (t : Typ) × Has l s fs × Has l t gs × IsJoin s t j d
@@ -39,7 +39,7 @@ joined_from d gs _ _ (joined_both k s t v {fs = fs} {hs = hs} there join rest) l
 joined_from d gs _ hs (joined_left_out k s {fs = fs} absent rest) l j has =
     let found = joined_from d gs fs hs rest l j has in (found.0, found.1, inr found.2, found.3, found.4)
 
--- .. and two fields with one label have one
+-- .. and two fields with one label have a join among those made
 joined_to : (d : Dialect) (gs fs hs : Fields) → AreWellFormed gs → AreJoined (Joins d) gs fs hs → (l : Label) (s t : Typ) → Has l s fs → Has l t gs
     → (j : Typ) × Has l j hs × IsJoin s t j d
 joined_to d gs _ _ wg joined_none l s t has there = absurd has
@@ -80,7 +80,7 @@ records_join d fs gs hs wf wg are = record {
         let other = record_inside gs is.0 d (subst (λ v. IsBelow (record_of gs) v d) is.1 b) in
         subst (λ v. IsBelow (record_of hs) v d) (sym is.1) (record_below hs is.0 d wh is.2 (fields_below hs is.0 d (each is.0 is.3 other)))
 
--- meets: where a field of the first is found among those made ..
+-- meets: below each field of the first list is one of those made ..
 
 met_left : (d : Dialect) (gs fs hs : Fields) → AreWellFormed fs → AreMet (Meets d) gs fs hs → (l : Label) (s : Typ) → Has l s fs → (m : Typ) × Has l m hs × IsBelow m s d
 met_left d gs _ _ wf met_none l s has = absurd has
@@ -89,7 +89,7 @@ met_left d gs _ _ wf (met_both k u t m {fs = fs} {hs = hs} there meet rest) l s 
 met_left d gs _ _ wf (met_alone k u absent rest) l s (inl e) = (s, inl (e.0, e.1), below_refl s d (subst (λ x. IsWellFormed x) e.1 wf.0))
 met_left d gs _ _ wf (met_alone k u {fs = fs} {hs = hs} absent rest) l s (inr has) = let found = met_left d gs fs hs wf.2 rest l s has in (found.0, inr found.1, found.2)
 
--- .. a field of the second, whose label the first has ..
+-- .. and one below each field of the second whose label the first has ..
 met_right : (d : Dialect) (gs fs hs : Fields) → AreWellFormed gs → AreMet (Meets d) gs fs hs → (l : Label) (s t : Typ) → Has l s fs → Has l t gs → (m : Typ) × Has l m hs × IsBelow m t d
 met_right d gs _ _ wg met_none l s t has there = absurd has
 met_right d gs _ _ wg (met_both k u v m other meet rest) l s t (inl e) there =
@@ -99,7 +99,7 @@ met_right d gs _ _ wg (met_both k u v m {fs = fs} {hs = hs} other meet rest) l s
 met_right d gs _ _ wg (met_alone k u absent rest) l s t (inl e) there = absurd (absent_not k gs t absent (subst (λ j. Has j t gs) (sym e.0) there))
 met_right d gs _ _ wg (met_alone k u {fs = fs} {hs = hs} absent rest) l s t (inr has) there = let found = met_right d gs fs hs wg rest l s t has there in (found.0, inr found.1, found.2)
 
--- .. and what each field made is
+-- .. and each field made is a meet, or a field of the first list
 met_from : (d : Dialect) (gs fs hs : Fields) → AreMet (Meets d) gs fs hs → (l : Label) (m : Typ) → Has l m hs
     → (s : Typ) × Has l s fs × (((t : Typ) × Has l t gs × IsMeet s t m d) ⊎ (s ≡ m))
 met_from d gs _ _ met_none l m has = absurd has
@@ -116,7 +116,7 @@ met_are_wf d gs _ _ wf (met_both k s t m {fs = fs} {hs = hs} there meet rest) =
 met_are_wf d gs _ _ wf (met_alone k s {fs = fs} {hs = hs} absent rest) =
     (wf.0, absent_from k hs (λ v has. let found = met_from d gs fs hs rest k v has in absent_not k fs found.0 wf.1 found.1), met_are_wf d gs fs hs wf.2 rest)
 
--- the meet of two record types has the fields met and the second's other ones
+-- the meet of two record types has the fields that were made, and the other fields of the second
 pub records_meet : (d : Dialect) (fs gs hs : Fields) → AreWellFormed fs → AreWellFormed gs → AreMet (Meets d) gs fs hs → IsMeet (record_of fs) (record_of gs) (record_of (joined hs (other_fields gs fs))) d
 records_meet d fs gs hs wf wg are = record {
   left = record_below whole fs d ww wf (fields_below whole fs d to_left);
@@ -158,7 +158,7 @@ records_meet d fs gs hs wf wg are = record {
         subst (λ v. IsBelow v (record_of whole) d) (sym is.1)
         (record_below is.0 whole d is.2 ww (fields_below is.0 whole d (λ l m has. beneath is.0 is.2 is.3 other l m (joined_has hs (other_fields gs fs) l m has))))
 
--- one label whose types have nothing below both
+-- two record types have nothing below both if this is so for the two types of some label
 pub records_no_meet : (d : Dialect) (fs gs : Fields) (l : Label) (s t : Typ) → Has l s fs → Has l t gs → HaveNoMeet s t d → HaveNoMeet (record_of fs) (record_of gs) d
 records_no_meet d fs gs l s t has there none = λ u a b.
     let is = below_record_is u fs d a in

@@ -1,4 +1,4 @@
--- Bounds of two types that are told by numbers of a table, while the table grows.
+-- Bounds of two types that are given by numbers of a table, while the table grows.
 use Rattle.std.proofs.Common.{◌≡◌, ◌∙◌, ℕ, ◌<◌, ◌++◌, List, [], ◌∷◌, String, length, ap, sym, refl, subst}
 use Rattle.std.specs.declared.alloc.Global.{Global}
 use Rattle.lam_rules.specs.Types.{Typ, top, arrow, record_of, joined, IsWellFormed}
@@ -19,7 +19,7 @@ use Rattle.lam_lattice.proofs.Arrows.{arrows_join, arrows_join_top, arrows_meet,
 use Rattle.lam_lattice.proofs.FieldBounds.{records_join, records_meet}
 use Rattle.lam_lattice.proofs.Orders.{are_joins, joins_are_ordered, are_meets, meets_are_ordered, order_seen}
 
--- types that are not of one shape
+-- the bounds on numbers
 
 -- two arrows
 
@@ -108,7 +108,7 @@ meet_labels old now s t fs gs met more items d is_s is_t ws wt keeps are below o
 
 -- the order of bounds on numbers
 
--- what is said of two numbers that stood before the table grew
+-- what holds of the types of two numbers held before the table grew
 before : (old now : List Typ) (left right : TyNo) (P : Typ → Typ → Type 0) → Keeps old now → left.index < length old → right.index < length old
     → P (type_of now left) (type_of now right) → P (type_of old left) (type_of old right)
 before old now left right P keeps one other p =

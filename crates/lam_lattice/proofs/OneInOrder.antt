@@ -1,4 +1,4 @@
--- Two bounds of one pair, both in its order, are one type.
+-- Two joins of one pair of types, or two meets, are one type if both are in its order.
 use Rattle.std.proofs.Common.{◌≡◌, ◌∙◌, ap, sym, refl, inl, inr, subst}
 use Rattle.lam_rules.specs.Types.{Label, Typ, nat, arrow, record_of, Fields, field, joined, Has, IsWellFormed, AreWellFormed}
 use Rattle.lam_rules.specs.Subtyping.{IsBelow}
@@ -13,7 +13,7 @@ use Rattle.lam_sub.proofs.Arranging.{field_below}
 use Rattle.lam_sub.proofs.Below.{arrow_inside, record_inside, below_bool, above_top}
 use Rattle.lam_lattice.specs.inner.Bounds.{IsJoin, IsMeet, JoinsInOrder, MeetsInOrder}
 
--- a type without parts and one that is both above and below it
+-- a type without parts is the only type that is both above and below it
 
 one_without_parts : (d : Dialect) (j k : Typ) → HasNoParts j → Under d j k → IsBelow k j d → j ≡ k
 one_without_parts d j _ n (under_top _) above = above_top j d above
@@ -41,7 +41,7 @@ parameters d j1 j2 k1 k2 level = record { below = (arrow_inside k1 k2 j1 j2 d le
 outcomes : (d : Dialect) (j1 j2 k1 k2 : Typ) → AreLevel d (arrow j1 j2) (arrow k1 k2) → AreLevel d j2 k2
 outcomes d j1 j2 k1 k2 level = record { below = (arrow_inside j1 j2 k1 k2 d level.below).1; above = (arrow_inside k1 k2 j1 j2 d level.above).1 }
 
--- the types that they have under one label
+-- the types that both lists have under one label are below each other
 abbrev AreLevelFields : Dialect → Fields → Fields → Type 0
 AreLevelFields d hs ks = (l : Label) (j k : Typ) → Has l j hs → Has l k ks → AreLevel d j k
 

@@ -12,7 +12,7 @@ use Rattle.lam_lattice.specs.inner.Bounds.{JoinsInOrder, MeetsInOrder}
 use Rattle.lam_lattice.specs.inner.Records.{AreUnlike, OrderlyJoins, OrderlyMeets, AreJoined, joined_none, joined_both, joined_left_out, AreMet, met_none, met_both, met_alone}
 use Rattle.lam_lattice.proofs.FieldBounds.{Joins, Meets}
 
--- a type beside itself
+-- the bounds of a type and itself
 
 abbrev IsWithin : Fields → Fields → Type 0
 IsWithin fs gs = (l : Label) (s : Typ) → Has l s fs → Has l s gs
@@ -51,7 +51,7 @@ mutual
   meet_of_same_fields (field l s fs) gs within =
       meet_common (within l s (inl (refl, refl))) (meet_of_same s) (meet_of_same_fields fs gs (λ k u has. within k u (inr has)))
 
--- of types that are not of one shape the greater has no parts, or there is Top above the other
+-- if one of two types that are not of one shape is below the other, the two are their own bounds, in order
 
 join_is_second : (d : Dialect) (s t : Typ) → AreUnlike s t → Under d s t → JoinsInOrder s t t
 join_is_second d s _ unlike (under_top _) = join_without_parts tt
@@ -123,7 +123,7 @@ meets_are_ordered d gs _ _ met_none = meet_no_fields
 meets_are_ordered d gs _ _ (met_both l s t m {fs = fs} {hs = hs} there made rest) = meet_common there made.1 (meets_are_ordered d gs fs hs rest)
 meets_are_ordered d gs _ _ (met_alone l s {fs = fs} {hs = hs} absent rest) = meet_alone absent (meets_are_ordered d gs fs hs rest)
 
--- the same of types that are told otherwise
+-- the order of equal types is the same
 pub order_seen : (InOrder : Typ → Typ → Typ → Type 0) (s t j x y z : Typ) → x ≡ s → y ≡ t → z ≡ j → InOrder x y z → InOrder s t j
 order_seen InOrder s t j x y z is_s is_t is_j order =
     subst (λ u. InOrder u t j) is_s (subst (λ u. InOrder x u j) is_t (subst (λ u. InOrder x y u) is_j order))

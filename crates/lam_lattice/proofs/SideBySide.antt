@@ -69,11 +69,11 @@ match_below n [] i m below lt is = let no_way : ⊥ = omega arith in absurd no_w
 match_below n (o ∷ ms) zero m below lt is = subst (λ x. (x.left.index < n) × IfSome x.right (λ number. number.index < n)) (sym is) (below.0, below.1)
 match_below n (o ∷ ms) (suc i) m below lt is = match_below n ms i m below.2 (omega arith) is
 
--- the number that a match has of the second stands
+-- the number that a match has from the second type is below the bound
 pub right_below : (n : ℕ) (ms : List Match) (i : ℕ) (m : Match) (r : TyNo) → AreMatchesBelow n ms → i < length ms → m ≡ get_or ms i m → m.right ≡ Some r → r.index < n
 right_below n ms i m r below lt is is_r = subst (λ o. IfSome o (λ number. number.index < n)) is_r (match_below n ms i m below lt is).1
 
--- the least number that is above each of the first's
+-- the least number that is above each number of the first type
 abbrev pub bound_of : List Match → ℕ
 bound_of [] = 0
 bound_of (m ∷ ms) = max (m.left.index + 1) (bound_of ms)
@@ -195,7 +195,7 @@ meets_all IsMade old now ms i made le so_far left right are =
     subst (λ x. AreMet IsMade (fields_over old right) (fields_over old left) x) (joined-none (fields_over now made))
     (so_far left right are no_fields (subst (λ fs. AreMet IsMade (fields_over old right) (fields_over old fs) no_fields) (sym (drop_all i left over)) met_none))
 
--- two fields with one label and nothing below both of their types
+-- two fields with one label and nothing below both of their types: so the record types have no meet
 pub meet_missing : (d : Dialect) (old before : List Typ) (ms : List Match) (i : ℕ) (m : Match) (r : TyNo) → AreMatchesBelow (length old) ms → i < length ms → m ≡ get_or ms i m → m.right ≡ Some r
     → Keeps old before → HaveNoMeet (type_of before m.left) (type_of before r) d
     → (left right : List (String Global × TyNo)) → AreMatches right left ms → HaveNoMeet (record_of (fields_over old left)) (record_of (fields_over old right)) d

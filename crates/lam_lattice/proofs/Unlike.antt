@@ -9,7 +9,7 @@ use Rattle.lam_sub.proofs.Below.{under_below}
 use Rattle.lam_lattice.specs.inner.Bounds.{IsJoin, IsMeet, HaveNoMeet}
 use Rattle.lam_lattice.specs.inner.Records.{AreUnlike}
 
--- one type above another is their join, and the other their meet
+-- if one type is above another, it is their join, and the other is their meet
 
 pub join_above : (s t : Typ) (d : Dialect) → IsBelow s t d → IsJoin s t t d
 join_above s t d below = record { left = below; right = below_refl t d (below_wf s t d below).1; least = λ u a b. b }
@@ -62,9 +62,9 @@ pub no_meet_unlike : (s t : Typ) (d : Dialect) → IsWellFormed s → IsWellForm
 no_meet_unlike s t d ws wt unlike n m = λ u a b.
     nothing_below d s t u unlike (below_under u s d a) (below_under u t d b) (λ under. n (under_below d s t under ws wt)) (λ under. m (under_below d t s under wt ws))
 
--- variants that are not of one shape
+-- from types to types that are equal to them
 
--- the same bounds of types that are told otherwise
+-- a join, a meet, and that there is no meet
 
 pub join_seen : (s t j x y z : Typ) (d : Dialect) → x ≡ s → y ≡ t → z ≡ j → IsJoin x y z d → IsJoin s t j d
 join_seen s t j x y z d is_s is_t is_j join =

@@ -1,4 +1,4 @@
--- A body has one kind, and each has one.
+-- Each body has a kind, and only one.
 use Rattle.std.specs.Prelude.{not, is_some, option_and_then, unwrap_or, codes, if◌then◌else◌}
 use Rattle.std.proofs.Common.{◌≡◌, List, ℕ, Bool, true, false, Option, Some, None, cond, refl, sym, ◌∙◌, ap, true≢false}
 use Rattle.std.specs.Str.{IsUtf8, is_utf8}
@@ -33,7 +33,7 @@ same_kind body m n (something k) (something l) = k.kind ∙ (ap message_kind (on
 pub one_kind : (body : List ℕ) (m n : Message) → IsKindOf body m → IsKindOf body n → m ≡ n
 one_kind body m n h k = same_kind body m n (how_read body m h) (how_read body n k)
 
--- what a value gives is never unreadable
+-- a message that a value gives is not unreadable
 abbrev IsRead : Message → Type 0
 IsRead m = m ≡ unreadable → ⊥
 

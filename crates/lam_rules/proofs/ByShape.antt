@@ -1,4 +1,4 @@
--- Subtyping by the shape of the types, without the rules of reflexivity and transitivity: each proof by the rules gives it.
+-- Subtyping by the shape of the types, without rules for reflexivity and transitivity: it follows from each proof by the rules.
 use Rattle.std.proofs.Common.{List, [], ◌∷◌, ap, sym, ◌∙◌, refl, subst, inl, inr}
 use Rattle.lam_rules.specs.Types.{Label, Typ, bool, nat, unit, top, arrow, record_of, Fields, no_fields, field, Has, IsWellFormed}
 use Rattle.lam_rules.specs.Subtyping.{Claim, BeginsWith, GoesFieldByField, BySubRule, IsRuleOf, SubTree, sub_step, SubTrees, no_subs, sub_first, conclusion, conclusions, IsSubProof, AreSubProofs, IsBelow}
@@ -27,7 +27,7 @@ field_under d fs no_fields u l t has = absurd has
 field_under d fs (field k v gs) (fields_more s here down more) l t (inl e) = (s, (rw (sym e.0) here), (rw (sym e.1) down))
 field_under d fs (field k v gs) (fields_more s here down more) l t (inr has) = field_under d fs gs more l t has
 
--- the other way: it is enough to say so of each field
+-- the other way: it is enough that each field above has one below
 pub fields_under : (d : Dialect) (fs gs : Fields) → ((l : Label) (t : Typ) → Has l t gs → (s : Typ) × Has l s fs × Under d s t) → FieldsUnder d fs gs
 fields_under d fs no_fields each = fields_none fs
 fields_under d fs (field l t gs) each =

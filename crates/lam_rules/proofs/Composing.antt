@@ -52,7 +52,7 @@ below_width fs gs d wf wg begins = (sub_step SubRule.RcdWidth (record_of fs) (re
 pub below_permutation : (fs gs : Fields) (d : Dialect) → AreWellFormed fs → AreWellFormed gs → IsPermutation fs gs → IsBelow (record_of fs) (record_of gs) d
 below_permutation fs gs d wf wg same = (sub_step SubRule.RcdPerm (record_of fs) (record_of gs) no_subs, ((wf, wg, tt, same, tt), refl))
 
--- the same labels in the same order, and each type below the other one
+-- the same labels in the same order, and each type below the one at its place in the second list
 abbrev pub EachBelow : Fields → Fields → Dialect → Type 0
 EachBelow no_fields no_fields d = Unit {0}
 EachBelow (field k s fs) (field l t gs) d = (k ≡ l) × IsBelow s t d × EachBelow fs gs d

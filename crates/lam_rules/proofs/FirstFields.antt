@@ -1,4 +1,4 @@
--- Labelled values looked through for the first that has a label.
+-- Looking through labeled values for the first one with a given label.
 use Rattle.std.proofs.Common.{◌≡◌, ℕ, ◌+◌, ◌<◌, ◌≤◌, List, String, string_bytes, Bool, true, false, cond, length, drop, get_or, ap, ◌∙◌, Some, None}
 use Rattle.std.specs.Option.{option_map}
 use Rattle.std.specs.List.{find}
@@ -20,10 +20,10 @@ module _ {X : Type 0} (l : Label) (fs : List (String Global × X)) where
   pub first_here : (i : ℕ) (f : String Global × X) → i < length fs → f ≡ get_or fs i f → bytes_eq (string_bytes f.0) l ≡ true → first_under l (drop i fs) ≡ Some f.1
   first_here i f lt is tested = first_of_rest i f true lt is tested
 
-  -- the next field has another one
+  -- the next field has another label
   pub first_later : (i : ℕ) (f : String Global × X) → i < length fs → f ≡ get_or fs i f → bytes_eq (string_bytes f.0) l ≡ false → first_under l (drop i fs) ≡ first_under l (drop (i + 1) fs)
   first_later i f lt is tested = first_of_rest i f false lt is tested
 
-  -- there is no field any more
+  -- there are no more fields
   pub first_of_none : (i : ℕ) → length fs ≤ i → first_under l (drop i fs) ≡ None
   first_of_none i le = ap (first_under l) (drop_all i fs le)

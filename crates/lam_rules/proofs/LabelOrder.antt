@@ -1,4 +1,4 @@
--- A stable sort by the bytes of the labels sorts the fields that labelled values stand for.
+-- A stable sort by the bytes of the labels sorts the fields that labeled values stand for.
 use Rattle.std.proofs.Common.{◌≡◌, ℕ, ◌+◌, ◌<◌, ◌≤◌, ◌++◌, drop, subst, List, [], ◌∷◌, Bool, true, false, cond, if◌then◌else◌, map, not, ◌&&◌, get_or, length, ap, sym, ◌∙◌, refl, suc, arith, String, string_bytes, ◌⊎◌, inl, inr}
 use Rattle.std.specs.List.{filter}
 use Rattle.std.specs.List.Sorted.{IsSortedBy, IsStableBy, ties}
@@ -29,7 +29,7 @@ tied_same Equal = refl
 tied_same Greater = refl
 
 module _ {X : Type 0} where
-  -- the label of the first stands before that of the second
+  -- the label of the first comes before that of the second
   abbrev pub is_before : String Global × X → String Global × X → Bool
   is_before x y = is_lt (slice_cmp nat_cmp (string_bytes x.0) (string_bytes y.0))
 
@@ -66,7 +66,7 @@ module _ {X : Type 0} where
       types_kept : (x : String Global × X) → types_under (string_bytes x.0) (fields_by typ ys) ≡ types_under (string_bytes x.0) (fields_by typ xs)
       types_kept x = types_tied x ys ∙ ap (map (λ y. typ y.1)) (stable x) ∙ sym (types_tied x xs)
 
-      -- a label that some value has, or none
+      -- for a label that some value has, the types under it are kept; for any other there are none
       kept_or_none : (l : Label) (zs : List (String Global × X)) → (types_under l (fields_by typ ys) ≡ types_under l (fields_by typ xs)) ⊎ (types_under l (fields_by typ zs) ≡ [])
       kept_or_none l [] = inr refl
       kept_or_none l (z ∷ zs) = by (bytes_eq l (string_bytes z.0)) refl (kept_or_none l zs)
@@ -91,7 +91,7 @@ module _ {X : Type 0} where
     pub stable_sorting : (xs ys : List (String Global × X)) → IsSortedBy is_before ys → IsStableBy is_before xs ys → IsSorting (fields_by typ xs) (fields_by typ ys)
     stable_sorting xs ys up stable = record { ascending = ascending ys up; same_fields = same_types xs ys stable }
 
--- fields whose types are sorted one by one, and then by their labels
+-- fields whose types are sorted one by one, and which are then sorted by their labels
 
 pub inside_more : (made more fs : List (String Global × Ty)) (i : ℕ) (f : String Global × Ty) (label : String Global) (t : Ty)
     → i < length fs → f ≡ get_or fs i f → more ≡ made ++ (label, t) ∷ [] → string_bytes label ≡ string_bytes f.0 → typ_of t ≡ sorted (typ_of f.1)

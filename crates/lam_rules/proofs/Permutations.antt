@@ -1,4 +1,4 @@
--- Fields with distinct labels are a permutation of others exactly where each are among the other.
+-- Two lists of fields with distinct labels are permutations of each other exactly if each includes the other.
 use Rattle.std.proofs.Common.{◌≡◌, ◌≢◌, ◌⊎◌, ◌↔◌, ap, sym, refl, inl, inr}
 use Rattle.lam_rules.specs.Types.{Label, Typ, Fields, no_fields, field, joined, IsAbsent, AreWellFormed, Has, Includes}
 use Rattle.lam_rules.specs.Subtyping.{IsPermutation}
@@ -39,7 +39,7 @@ has_or (field j s rest) k u after l t (inr has) = further (has_or rest k u after
     further (inl e) = inl e
     further (inr h) = inr (inr h)
 
--- labels that are distinct with a field are so without it
+-- a label that is absent is still absent without one of the fields, and distinct labels are still distinct
 absent_without : (m : Label) (before : Fields) (k : Label) (u : Typ) (after : Fields) → IsAbsent m (joined before (field k u after)) → IsAbsent m (joined before after)
 absent_without m no_fields k u after absent = absent.1
 absent_without m (field j s rest) k u after absent = (absent.0, absent_without m rest k u after absent.1)
@@ -61,7 +61,7 @@ absent_not k no_fields t absent has = has
 absent_not k (field j s rest) t absent (inl e) = absent.0 (sym e.0)
 absent_not k (field j s rest) t absent (inr has) = absent_not k rest t absent.1 has
 
--- both ways
+-- a permutation has the same fields, both ways
 pub permutation_has : (fs gs : Fields) → IsPermutation fs gs → (l : Label) (t : Typ) → Has l t fs → Has l t gs
 permutation_has no_fields gs p l t has = absurd has
 permutation_has (field k u rest) gs (before, after, e, p) l t (inl s) = rw (e, sym s.0, sym s.1) (has_there before k u after)

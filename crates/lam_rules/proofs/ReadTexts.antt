@@ -1,4 +1,4 @@
--- A text with readable labels is that of one type, so types of one text lie below each other.
+-- A text with readable labels is that of one type, so types with the same text lie below each other.
 use Rattle.std.proofs.Common.{◌≡◌, ◌≢◌, ℕ, [], ◌∷◌, ◌++◌, Bool, true, false, if◌then◌else◌, refl, sym, ap, ◌∙◌, append_assoc, arith, codes}
 use Rattle.std.specs.List.{All}
 use Rattle.std.specs.Str.{byte}

@@ -170,7 +170,7 @@ pub no_fix : (term : Core) → ((e : Box Core Global) → term ≡ (Fix e) → �
     → (g : Context) (t : Typ) (ps : TypingTrees) (d : Dialect) → ByTypeRule TypeRule.Fix None g (term_of term) t ps d → ⊥
 no_fix term = not_fix (seen term)
 
--- so many premises, and no other number
+-- the number of premises of each rule
 
 count_true : (g : Context) (e : Term) (t : Typ) (ps : TypingTrees) (d : Dialect) → ByTypeRule TypeRule.True None g e t ps d → count ps ≡ 0
 count_true g true_term t no_typings d h = refl
@@ -284,7 +284,7 @@ count_sub _ _ _ _ _ _ h = absurd h
 pub counts_sub : (ps : List TypeProof) → (length ps ≡ 1 → ⊥) → (q : SubTree) (g : Context) (e : Term) (t : Typ) (d : Dialect) → ByTypeRule TypeRule.Sub (Some q) g e t (typings_of ps) d → ⊥
 counts_sub ps other q g e t d h = other (sym (count-typings_of ps) ∙ count_sub q g e t (typings_of ps) d h)
 
--- T-Rcd: a record type, and as many terms, fields and premises
+-- T-Rcd: the type is a record type, and there are as many terms as fields and as premises
 
 rcd_only : (g : Context) (es : TermFields) (t : Typ) (ps : TypingTrees) (d : Dialect) → ((fs : Fields) → t ≡ record_of fs → ⊥) → ByTypeRule TypeRule.Rcd None g (record_term es) t ps d → ⊥
 rcd_only g no_terms (record_of fs) ps d other h = other fs refl
@@ -319,7 +319,7 @@ pub rcd_not_premises : (es : List (String Global × Core)) (fs : Fields) (ps : L
 rcd_not_premises es fs ps other g d h =
     other (sym (term_count-terms_of es) ∙ (rcd_counts g (terms_of es) fs (typings_of ps) d h).1 ∙ count-typings_of ps)
 
--- a record type alone has fields
+-- only a record type has fields
 pub no_field : (ty : Ty) → ((fs : RustFields) → ty ≡ RecordType fs → ⊥) → (l : Label) (t : Typ) → HasField (typ_of ty) l t → ⊥
 no_field ty other l t = only (typ_of ty) (λ fs e. no_record ty fs other e)
   where

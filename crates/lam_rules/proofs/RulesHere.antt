@@ -1,4 +1,4 @@
--- Each rule of typing at a term and premises that were told apart.
+-- Each rule of typing, at a term and premises whose forms are known.
 use Rattle.std.proofs.Common.{◌≡◌, ◌<◌, ◌≤◌, ◌↔◌, List, ◌∷◌, Option, Some, None, String, string_bytes, Box, length, get_or, ap, sym, ◌∙◌, ℕ, ◌+◌, drop}
 use Rattle.std.specs.declared.alloc.Global.{Global}
 use Rattle.lam_rules.specs.Types.{Label, Typ, bool, nat, arrow, record_of, Fields, Has}

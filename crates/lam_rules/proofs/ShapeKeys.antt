@@ -19,7 +19,7 @@ use Rattle.lam_rules.specs.declared.numbers.TyNo.{TyNo}
 use Rattle.lam_rules.specs.declared.numbers.Shape.{Shape}
 use Rattle.lam_rules.specs.declared.table.Entry.{Entry}
 
--- the same as a third
+-- two that are the same as a third are the same
 
 numbers_same_both : (fs gs hs : List (String Global × TyNo)) → AreSame fs gs → AreSame fs hs → AreSame gs hs
 numbers_same_both [] [] [] p q = tt
@@ -109,7 +109,7 @@ same_equal (Shape.Record fs) (Shape.Record gs) h =
     fs.items gs.items h
 same_equal _ _ h = absurd h
 
--- the index of a table that grows
+-- the index of a table when an entry is added
 
 abbrev Index : Type 0
 Index = HashMap Shape TyNo (BuildHasherDefault FoldHasher)

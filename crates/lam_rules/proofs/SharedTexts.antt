@@ -17,7 +17,7 @@ use Rattle.lam_rules.specs.declared.rules.Dialect.{Dialect}
 use Rattle.lam_rules.proofs.ByShape.{Under, under_bool, under_nat, under_unit, under_top, under_arrow, under_record, under_bool_nat, field_under, below_under, below_wf}
 use Rattle.lam_rules.proofs.Permutations.{absent_not}
 
--- the first label stands before the second in byte order
+-- the first label comes before the second in byte order
 abbrev pub Before : Label → Label → Type 0
 Before k l = slice_cmp nat_cmp k l ≡ Less
 
@@ -33,7 +33,7 @@ before_turned k l h = nat_list_cmp_total.antisymm l k ∙ ap ordering_reverse h
 pub tied_same : (k l : Label) → slice_cmp nat_cmp k l ≡ Equal → k ≡ l
 tied_same k l h = (bytes_eq-Decides k l).0 (texts_ties k l ∙ ap is_eq h)
 
--- each label stands before those that follow
+-- each label comes before those that follow
 abbrev IsAscending : Fields → Type 0
 IsAscending no_fields = Unit {0}
 IsAscending (field l t rest) = ((k : Label) (u : Typ) → Has k u rest → Before l k) × IsAscending rest
@@ -86,7 +86,7 @@ placed_ascending l t (field j s fs) new up =
         first : (k : Label) (u : Typ) → Has k u (placed l t fs) → Before j k
         first k u has = after k u (has_placed l t fs k u has)
 
--- sorted fields: those of the fields, each sorted, with ascending labels
+-- the sorted fields are the fields with each type sorted, and their labels ascend
 
 sorted_has : (fs : Fields) (l : Label) (t : Typ) → Has l t fs → Has l (sorted t) (sorted_fields fs)
 sorted_has no_fields l t has = absurd has
@@ -109,7 +109,7 @@ sorted_ascending (field l t fs) wf = placed_ascending l (sorted t) (sorted_field
     new : (k : Label) (v : Typ) → Has k v (sorted_fields fs) → l ≢ k
     new k v has e = let found = has_sorted fs k v has in absent_not l fs found.0 wf.1 (rw e found.1)
 
--- fields with ascending labels are told by which fields there are
+-- fields with ascending labels are determined by which fields there are
 ascending_same : (fs gs : Fields) → IsAscending fs → IsAscending gs
     → ((l : Label) (t : Typ) → Has l t fs → Has l t gs) → ((l : Label) (t : Typ) → Has l t gs → Has l t fs) → fs ≡ gs
 ascending_same no_fields no_fields uf ug there back = refl

@@ -1,4 +1,4 @@
--- A sorted type has distinct labels where the type has, is sorted already, and lies below and above the type.
+-- A sorted type: sorting it again changes nothing, its labels are distinct if those of the type are, and it lies below and above the type.
 use Rattle.std.proofs.Common.{◌≡◌, ◌≢◌, ◌↔◌, Bool, true, false, if◌then◌else◌, ap, sym, ◌∙◌, refl, subst}
 use Rattle.lam_rules.specs.Types.{Label, Typ, bool, nat, unit, top, arrow, record_of, Fields, no_fields, field, joined, IsAbsent, IsWellFormed, AreWellFormed}
 use Rattle.lam_rules.specs.Texts.{is_not_after, placed, sorted, sorted_fields}
@@ -98,9 +98,9 @@ inside_wf : (fs : Fields) → AreWellFormed fs → AreWellFormed (sorted_inside 
 inside_wf no_fields wf = tt
 inside_wf (field l t fs) wf = (sorted_wf t wf.0, absent_inside l fs wf.1, inside_wf fs wf.2)
 
--- the sorted fields are a permutation of the fields with each type sorted, and the other way round
+-- the sorted fields are a permutation of the fields with each type sorted, and vice versa
 
--- a field more in front, and in its place
+-- one more field: at the front of one list, and put in its place in the other
 permutation_placed : (l : Label) (t : Typ) (fs gs : Fields) → IsPermutation fs gs → IsPermutation (field l t fs) (placed l t gs)
 permutation_placed l t fs gs same = let at = place gs in (at.0, at.1, at.2, (rw at.3 at same))
   where

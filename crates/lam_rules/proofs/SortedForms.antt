@@ -1,4 +1,4 @@
--- Putting each field in its place sorts: what comes of it is the one sorted form.
+-- Putting each field in its place sorts: the result is the one sorted form.
 use Rattle.std.proofs.Common.{◌≡◌, List, ◌∷◌, Bool, true, false, if◌then◌else◌, ap, sym, ◌∙◌, refl, subst}
 use Rattle.std.specs.Prelude.{IsTrue}
 use Rattle.std.specs.Str.{bytes_eq}
@@ -50,7 +50,7 @@ not_after_same k l p q =
 same_label : (k : Label) → bytes_eq k k ≡ true
 same_label k = (bytes_eq-Decides k k).1 refl
 
--- a field that is put in its place: the labels still ascend, and the fields of each label are those with it in front
+-- a field that is put in its place: the labels still ascend, and under each label are the same types as with the field in front
 
 first_placed : (j l : Label) (t : Typ) (fs : Fields) → IsTrue (is_not_after j l) → ComesFirst j fs → ComesFirst j (placed l t fs)
 first_placed j l t no_fields h first = (h, tt)
@@ -129,7 +129,7 @@ mutual
   inside_forms no_fields = tt
   inside_forms (field l t fs) = (refl, sorted_is_form t, inside_forms fs)
 
--- there is no other: fields whose labels ascend are told by the types under each label
+-- there is no other: fields whose labels ascend are determined by the types under each label
 
 occurs_after : (l : Label) (fs : Fields) → ComesFirst l fs → (k : Label) (t : Typ) (ts : List Typ) → types_under k fs ≡ t ∷ ts → is_not_after l k ≡ true
 occurs_after l no_fields first k t ts e = cc

@@ -1,4 +1,4 @@
--- A sorted type has as many nodes.
+-- A sorted type has as many nodes as the type.
 use Rattle.std.proofs.Common.{◌≡◌, ◌+◌, ◌∙◌, Bool, true, false, if◌then◌else◌, ap, refl, sym, arith}
 use Rattle.lam_rules.specs.Types.{Label, Typ, bool, nat, unit, top, arrow, record_of, Fields, no_fields, field, nodes, nodes_in}
 use Rattle.lam_rules.specs.Texts.{is_not_after, placed, sorted, sorted_fields}

@@ -1,4 +1,4 @@
--- How trees of subtyping are seen.
+-- How a `SubProof` is seen as a tree, and lists of them as premises.
 use Rattle.std.proofs.Common.{◌≡◌, ℕ, ◌+◌, ◌<◌, ◌≢◌, List, [], ◌∷◌, map, length, drop, get_or, ap, sym, ◌∙◌, refl, drop-cons, add-one, suc, arith, ◌≤◌, String}
 use Rattle.std.specs.declared.alloc.Global.{Global}
 use Rattle.lam_rules.specs.Types.{Fields, no_fields, field}
@@ -46,7 +46,7 @@ pub claims_of-none : (ps : List SubProof) → length ps ≡ 0 → claims_of ps �
 claims_of-none [] e = refl
 claims_of-none (p ∷ ps) e = absurd (omega arith)
 
--- premises and fields of different number fit no rule on records
+-- premises and fields that differ in number fit no rule on records
 
 begins_with_fewer : (fs gs : Fields) → BeginsWith fs gs → field_count gs ≤ field_count fs
 begins_with_fewer no_fields no_fields h = omega arith

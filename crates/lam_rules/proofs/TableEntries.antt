@@ -1,4 +1,4 @@
--- The entries of a table: their types, what it is that two shapes are one type, and that a new entry at the end leaves a table.
+-- The entries of a table: their types, when two shapes are one type, and that a table with a new entry at its end is still a table.
 use Rattle.std.proofs.Common.{◌≡◌, ◌↔◌, ◌⊎◌, inl, inr, zero, suc, drop, ℕ, ◌+◌, ◌<◌, ◌≤◌, List, [], ◌∷◌, ◌++◌, length, get_or, ap, sym, Bool, eq-eqb, ◌∙◌, refl, subst, arith, length-append, String, string_bytes}
 use Rattle.std.specs.Prelude.{min, IsTrue, eqb}
 use borrow.Author.Tests.{eqb-true}
@@ -42,7 +42,7 @@ pub length-types_of : (es : List Entry) → length (types_of es) ≡ length es
 unfolding types_of
 length-types_of es = let e = length-types_from [] es in omega arith
 
--- shapes over numbers of distinct types are one type only where they are the same
+-- shapes over numbers of distinct types are one type only if they are the same
 
 pub fields_same : (ts : List Typ) (fs gs : List (String Global × TyNo)) → AreSame fs gs → fields_over ts fs ≡ fields_over ts gs
 fields_same ts [] [] same = refl

@@ -1,4 +1,4 @@
--- Lists of labelled numbers: found by a label, given by a caller, sorted.
+-- Lists of labeled numbers: found by a label, given by a caller, sorted.
 use Rattle.std.proofs.Common.{◌≡◌, ◌↔◌, inl, inr, ℕ, ◌+◌, ◌<◌, ◌≤◌, List, [], ◌∷◌, ◌++◌, length, take, drop, get_or, ap, sym, ◌∙◌, refl, subst, zero, suc, arith, max, String, string_bytes}
 use Rattle.std.specs.List.{All, AllByRecursion}
 use Rattle.std.specs.List.Sorted.{IsPermutation}
@@ -168,7 +168,7 @@ pub added_all : (old now : List Typ) (items : List (String Global × TyNo)) (fs 
     → AreAdded old now items (fields_of (drop i fs)) (fields_of fs) → length fs ≤ i → fields_over now items ≡ fields_of fs
 added_all old now items fs i so_far le = sym (joined-none (fields_over now items)) ∙ (rw (drop_all i fs le) at so_far.fields)
 
--- what a type made of a number leaves, field by field
+-- what the types made from numbers leave, field by field
 
 pub made_more : (ts : List Typ) (items more : List (String Global × Ty)) (fs : List (String Global × TyNo)) (i : ℕ) (f : String Global × TyNo) (label : String Global) (t : Ty) (all : Fields)
     → i < length fs → f ≡ get_or fs i f → more ≡ items ++ (label, t) ∷ [] → string_bytes label ≡ string_bytes f.0 → typ_of t ≡ type_of ts f.1
@@ -181,7 +181,7 @@ pub made_all : (ts : List Typ) (items : List (String Global × Ty)) (fs : List (
     → joined (fields_of items) (fields_over ts (drop i fs)) ≡ fields_over ts fs → fields_of items ≡ fields_over ts fs
 made_all ts items fs i le so_far = sym (joined-none (fields_of items)) ∙ (rw (drop_all i fs le) at so_far)
 
--- what is to be sorted: each number is that of a sorted form, and its label stands where it did
+-- what is to be sorted: each number is that of a sorted form, and each label is where it was
 
 pub inside_more : (ts : List Typ) (made more fs : List (String Global × TyNo)) (i : ℕ) (f : String Global × TyNo) (label : String Global) (number : TyNo)
     → i < length fs → f ≡ get_or fs i f → more ≡ made ++ (label, number) ∷ [] → string_bytes label ≡ string_bytes f.0
@@ -224,7 +224,7 @@ pub below_permutation : (n : ℕ) (fs gs : List (String Global × TyNo)) → IsP
 below_permutation n fs gs moved below =
     each_below n gs (All-permutation (λ f. f.1.index < n) fs gs moved (All-from_recursion (λ f. f.1.index < n) fs (below_each n fs below)))
 
--- labels that are distinct in a type are so in its shape
+-- labels that are distinct in a type are distinct in its shape
 not_among_of : (ts : List Typ) (l : Label) (fs : List (String Global × TyNo)) → IsAbsent l (fields_over ts fs) → IsNotAmong l fs
 not_among_of ts l [] absent = tt
 not_among_of ts l (f ∷ fs) absent = (absent.0, not_among_of ts l fs absent.1)

@@ -1,4 +1,4 @@
--- How terms are seen as trees: the tree at each variant, and of lists of labelled terms.
+-- How terms are seen as trees: the tree at each variant, and of lists of labeled terms.
 use Rattle.std.proofs.Common.{◌≡◌, ℕ, ◌+◌, ◌<◌, List, [], ◌∷◌, map, Option, String, string_bytes, Box, Vec, length, drop, get_or, drop-cons, add-one, suc, ap, sym, ◌∙◌, refl, subst}
 use Rattle.std.specs.declared.alloc.Global.{Global}
 use Rattle.lam_rules.specs.Terms.{Term, true_term, false_term, if_then_else, numeral, succ, pred, is_zero, variable, free, lambda, apply, unit_term, ascribe, let_in, record_term, project, fix, term_field}
@@ -124,7 +124,7 @@ seen e = subst (λ e. Seen e (term_of e)) (roll-out-Core e) (rolled (out-Core e)
     rolled (Core-F.Proj p) = subst (λ e. Seen e (term_of e)) (sym (rolls-Proj p)) (subst (λ u. Seen (Proj p) u) (sym (term_of-Proj p)) (seen_Proj p))
     rolled (Core-F.Fix e) = subst (λ e. Seen e (term_of e)) (sym (rolls-Fix e)) (subst (λ u. Seen (Fix e) u) (sym (term_of-Fix e)) (seen_Fix e))
 
--- lists of labelled terms
+-- lists of labeled terms
 
 pub terms_of-drop : (fs : List (String Global × Core)) (i : ℕ) (f : String Global × Core)
     → i < length fs → f ≡ get_or fs i f

@@ -1,4 +1,4 @@
--- How trees of typing and contexts are seen.
+-- How a `TypeProof` is seen as a tree, and entries as a context.
 use Rattle.std.proofs.Common.{◌≡◌, ℕ, ◌+◌, ◌<◌, ◌≤◌, List, [], ◌∷◌, map, Option, Some, length, drop, get_or, ap, sym, ◌∙◌, refl, drop-cons, add-one, suc, arith, Bor}
 use Rattle.std.specs.Option.{option_map}
 use Rattle.lam_rules.specs.Types.{Typ, IsWellFormed}
@@ -29,7 +29,7 @@ typing_tree_of-node p =
 pub type_in-typing_tree_of : (p : TypeProof) → type_in (typing_tree_of p) ≡ typ_of (out-TypeProof p).ty
 type_in-typing_tree_of p = ap type_in (typing_tree_of-node p)
 
--- what a proof concludes of has distinct labels
+-- the type that a proof concludes has distinct labels
 typing_wf : (g : Context) (e : Term) (p : TypingTree) (d : Dialect) → IsTyping g e p d → IsWellFormed (type_in p)
 typing_wf g e (typing_step r t ps s) d h = h.1
 
@@ -49,7 +49,7 @@ pub typings_of-none : (ps : List TypeProof) → length ps ≡ 0 → typings_of p
 typings_of-none [] e = refl
 typings_of-none (p ∷ ps) e = absurd (omega arith)
 
--- premises that are told apart one by one
+-- one, two or three premises, each known by its index
 
 pub one_premise : (ps : List TypeProof) (p : TypeProof) → 1 ≤ length ps → length ps < 2 → p ≡ get_or ps 0 p
     → typings_of ps ≡ typing_first (typing_tree_of p) no_typings

@@ -30,7 +30,7 @@ pub record Keeps (old now : List Typ) : Type 0 where
   pub more : List Typ
   pub is : now ≡ old ++ more
 
--- the fields of labelled ids
+-- the fields of labeled ids
 abbrev pub fields_over : List Typ → List (String Global × TyNo) → Fields
 fields_over ts [] = no_fields
 fields_over ts (f ∷ fs) = field (string_bytes f.0) (type_of ts f.1) (fields_over ts fs)
@@ -77,9 +77,9 @@ HasDistinctLabels _ = Unit {0}
 abbrev pub first_under : {X : Type 0} → Label → List (String Global × X) → Option X
 first_under l fs = option_map (λ f. f.1) (find (λ f. bytes_eq (string_bytes f.0) l) fs)
 
--- Labelled ids that a caller passes, with borrowed labels.
+-- Labeled ids that a caller passes, with borrowed labels.
 
--- the fields of passed labelled ids
+-- the fields of passed labeled ids
 abbrev pub fields_given : List Typ → List (Bor (List ℕ) × TyNo) → Fields
 fields_given ts [] = no_fields
 fields_given ts (f ∷ fs) = field f.0.now (type_of ts f.1) (fields_given ts fs)

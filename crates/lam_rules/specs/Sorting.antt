@@ -25,7 +25,7 @@ pub record IsSorting (fs gs : Fields) : Type 0 where
   pub ascending : IsAscending gs
   pub same_fields : (l : Label) → types_under l gs ≡ types_under l fs
 
--- labelled values as fields, given the type of each value
+-- labeled values as fields, given the type of each value
 abbrev pub fields_by : {X : Type 0} → (X → Typ) → List (String Global × X) → Fields
 fields_by typ [] = no_fields
 fields_by typ (f ∷ fs) = field (string_bytes f.0) (typ f.1) (fields_by typ fs)

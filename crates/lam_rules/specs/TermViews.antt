@@ -13,7 +13,7 @@ use Rattle.lam_rules.specs.declared.terms.Core.TheOpen.{Core-F}
 abbrev pub written_of : Option Ty → Option Typ
 written_of = option_map typ_of
 
--- labelled terms as the fields of a record
+-- labeled terms as the fields of a record
 abbrev pub terms_made : List (String Global × Term) → TermFields
 terms_made [] = no_terms
 terms_made (f ∷ fs) = term_field (string_bytes f.0) f.1 (terms_made fs)
@@ -42,7 +42,7 @@ term_step (Core-F.Fix e) = fix e.value
 unfoldable pub term_of : Core → Term
 term_of = fold-Core Term term_step
 
--- the fields of a list of labelled terms
+-- the fields of a list of labeled terms
 abbrev pub terms_of : List (String Global × Core) → TermFields
 terms_of [] = no_terms
 terms_of (f ∷ fs) = term_field (string_bytes f.0) (term_of f.1) (terms_of fs)

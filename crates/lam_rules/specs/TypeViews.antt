@@ -6,7 +6,7 @@ use Rattle.lam_rules.specs.declared.types.Ty.{Ty, fold-Ty}
 use Rattle.lam_rules.specs.declared.types.Ty.TheOpen.{Ty-F}
 use Rattle.lam_rules.specs.declared.types.Fields.{Fields-F}
 
--- labelled types as fields
+-- labeled types as fields
 abbrev pub fields_made : List (String Global × Typ) → Fields
 fields_made [] = no_fields
 fields_made (f ∷ fs) = field (string_bytes f.0) f.1 (fields_made fs)
@@ -28,7 +28,7 @@ fields_step fs = fields_made fs.items.value.items
 unfoldable pub typ_of : Ty → Typ
 typ_of = fold-Ty Typ Fields typ_step fields_step
 
--- the fields of a list of labelled types
+-- the fields of a list of labeled types
 abbrev pub fields_of : List (String Global × Ty) → Fields
 fields_of [] = no_fields
 fields_of (f ∷ fs) = field (string_bytes f.0) (typ_of f.1) (fields_of fs)

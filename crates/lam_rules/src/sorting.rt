@@ -1,4 +1,4 @@
-//! Sorting labelled values.
+//! Sorting labeled values.
 
 ghost use Rattle.std.specs.Prelude.{OnOk};
 ghost use Rattle.std.specs.List.Sorted.{IsPermutation};

@@ -1,4 +1,4 @@
--- What a turn makes of what the reader answered and of what answering did.
+-- What a turn does, by the result of the reader and by what answering the message did.
 use Rattle.std.proofs.Common.{◌≡◌, ◌<◌, ◌≤◌, ℕ, ◌^◌, List, ◌++◌, Option, Some, None, Result, Ok, Err, refl, sym, ◌∙◌, subst}
 use Rattle.std.specs.List.{concat}
 use Rattle.serde_json.specs.Data.{Data}
@@ -89,7 +89,7 @@ module _ {S V W : Type 0} (items : V → List ℕ) (from : SourceView S) (to : S
       turn held pulls old source sink (Err TooManyTurns) held_after pulls_after source_after sink (Err DeviceRun) r (at_limit (r.says, r.onward tt) (sym r.counted ∙ r.limit refl) r.after refl)
   turn_unread held pulls old source sink Spent held_after pulls_after source_after r = absurd r.says
 
-  -- a message was taken, and not answered in full
+  -- a message was taken, but not answered in full
   pub turn_unanswered : (held : List ℕ) (pulls : ℕ) (old : Snapshot) (source : S) (sink : W) (body : V) (held_after : List ℕ) (pulls_after : ℕ) (new : Snapshot) (source_after : S) (sink_after : W) (fault : RunFault)
       → Reads from IsOpen (Says items) held pulls source (Ok (Some body)) held_after pulls_after source_after
       → AnswersBody to old (items body) sink (Err fault) new sink_after

@@ -1,4 +1,4 @@
--- A pull that fails finds all answered: in no other way does the count of the source's failures rise in a run.
+-- When a pull fails, all that was due is answered; the count of the source's failures rises in a run in no other way.
 use Rattle.std.proofs.Common.{◌≡◌, ◌<◌, ℕ, [], Result, Ok, Err, refl, ap, arith}
 use Rattle.lam_frame.specs.Device.{SourceView, SinkView}
 use Rattle.lam_frame.proofs.Pulls.{PulledWhile-failed}
@@ -12,7 +12,7 @@ use Rattle.lam_server.specs.declared.faults.RunFault.TheVariants.{Header, Device
 
 module _ {S W : Type 0} (from : SourceView S) (to : SinkView W) where
   module _ (start : State) (source : S) (sink : W) (source_after : S) (sink_after : W) (rose : from.failed source < from.failed source_after) where
-    -- where nothing was pulled behind the pieces, no pull failed
+    -- if the source is the one that was left by the pieces, no pull failed
     no_failure : (answer : Result ℕ RunFault) → (r : Runs from to start source sink answer source_after sink_after) → r.last ≡ source_after → ⊥
     no_failure answer r same =
         let pulled : from.failed r.last ≡ from.failed source = PulledWhile-failed from (IsAnsweredIn start r.out) [] source r.last r.pieces r.needed in

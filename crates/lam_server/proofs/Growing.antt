@@ -1,4 +1,4 @@
--- With more bytes behind, more messages follow: what was answered stays, and goes on to an output that is allowed.
+-- More bytes only add messages: what was answered stays, and some output that is allowed begins with it.
 use Rattle.std.proofs.Common.{◌≡◌, ℕ, List, [], ◌∷◌, ◌++◌, Option, Some, None, Ok, Err, refl, sym, ap, ◌∙◌, subst, append_assoc, append-nil}
 use Rattle.lam_frame.specs.Frame.{IsReading, IsRest}
 use Rattle.lam_frame.proofs.Readings.{has_reading}
@@ -39,7 +39,7 @@ module _ (start : State) (bytes : List ℕ) where
     allowed = record { state = s; left = left; turns = subst (λ (l : List ℕ). Turns start bytes l s left) (sym (append-nil out)) turns; comes_to = comes };
   }
 
-  -- what is sent next belongs to the front
+  -- a prefix of a front is a front too
   behind : (out first : List ℕ) → IsFront start bytes (out ++ first) → IsFront start bytes out
   behind out first f = record {
     rest = first ++ f.rest;
@@ -51,7 +51,7 @@ module _ (start : State) (bytes : List ℕ) where
   rest_outcome None left rest = (Ok 1, (rest, refl))
   rest_outcome (Some fault) left rest = (Err fault, rest)
 
-  -- by the bodies that are left, while the session lives
+  -- by the bodies that are left, as long as the session has not ended
   to_the_end : (bodies : List (List ℕ)) (fault : Option FrameFault) (out left : List ℕ) (s : State) (life : Option ℕ) → ended_status s.life ≡ life → Turns start bytes out s left → IsReading left bodies fault → IsFront start bytes out
   to_the_end bodies fault out left s (Some status) e turns reading =
       allowed out left s (Ok status) turns (subst (λ (o : Option ℕ). ComesTo o left (Ok status)) (sym e) refl)

@@ -1,4 +1,4 @@
--- Every input has an output, and one alone, but for which derivation is given.
+-- Every input has an output, and only one, except for which derivation is given.
 use Rattle.std.proofs.Common.{◌≡◌, ℕ, List, [], ◌∷◌, ◌++◌, Option, Some, None, Ok, Err, sym, ap, ◌∙◌, subst, append_assoc, append-nil}
 use Rattle.lam_frame.specs.Frame.{HasFrame, IsRest}
 use Rattle.lam_frame.proofs.Readings.{frames_agree, has_reading, reads_one_way}

@@ -15,12 +15,12 @@ use Rattle.lam_session.specs.declared.outgoing.Outgoing.{Outgoing}
 use Rattle.lam_server.specs.Device.{IsFlushedAfter, Sends, FailsToSend, StopsSending}
 use Rattle.lam_server.specs.Output.{frames_of}
 
--- the frames of values and of more are those of the one and of the other
+-- the frames of two lists of values together are those of the first and then those of the second
 pub frames-append : (ds es : List Data) → frames_of (ds ++ es) ≡ frames_of ds ++ frames_of es
 frames-append [] es = refl
 frames-append (d ∷ ds) es = ap (λ (l : List ℕ). frame_text (compact_text d) ++ l) (frames-append ds es) ∙ sym (append_assoc (frame_text (compact_text d)) (frames_of ds) (frames_of es))
 
--- the values of the messages from one on are that one's and those behind it
+-- the values of the messages from this one on are its own and those of the messages behind it
 pub values_from : (sent : List Outgoing) (i : ℕ) (outgoing : Outgoing) → i < length sent → outgoing ≡ get_or sent i outgoing
     → map data_of (drop i sent) ≡ data_of outgoing ∷ map data_of (drop (i + 1) sent)
 values_from sent i outgoing below at = ap (map data_of) (drop-cons sent i outgoing below ∙ ap (λ (o : Outgoing). o ∷ drop (suc i) sent) (sym at)) ∙ rw add-one refl
@@ -30,7 +30,7 @@ text_at : (sent : List Outgoing) (i : ℕ) (outgoing : Outgoing) (text : List �
     → (has_float (data_of outgoing) ≡ false → text ≡ compact_text (data_of outgoing)) → text ≡ compact_text (data_of outgoing)
 text_at sent i outgoing text below at plain is = is (subst (λ (o : Outgoing). has_float (data_of o) ≡ false) (sym at) (plain i outgoing below))
 
--- the one fault of sending a frame counts
+-- the only fault of sending a frame is counted as a failure
 pub counts_failure : (V : Type 0) (fault : FrameFault) (n m : ℕ) → fault ≡ Device → n ≡ failures_after {V = V} (Err fault) m → n ≡ m + 1
 counts_failure V fault n m is e = e ∙ ap (λ (f : FrameFault). failures_after {V = V} (Err f) m) is
 
@@ -51,7 +51,7 @@ module _ {W : Type 0} (to : SinkView W) where
     unfailed = q.unfailed ∙ p.unfailed;
   }
 
-  -- a front behind bytes is a front of both
+  -- a front that is sent after some bytes makes a front of both
   pub front_behind : (old middle new : W) (first second : List ℕ) → Sends to old first middle → AppendsFront (to.taken middle) (to.taken new) second → AppendsFront (to.taken old) (to.taken new) (first ++ second)
   front_behind old middle new first second p q = record {
     front = first ++ q.front;
@@ -69,7 +69,7 @@ module _ {W : Type 0} (to : SinkView W) where
     appended = p.appended;
   }
 
-  -- a frame is not empty
+  -- all is flushed after a frame, since a frame is not empty
   flushed_frame : (old new : W) (body : List ℕ) → IsFlushed (to.taken new) (to.flushed new) → IsFlushedAfter to old (frame_text body) new
   unfolding frame_text header_line
   flushed_frame old new body p = p

@@ -1,4 +1,4 @@
--- A run by the pieces that the source gave is a run by the bytes that it tells.
+-- What holds of a run by the pieces that the source gave also holds by the bytes that the source tells.
 use Rattle.std.proofs.Common.{◌≡◌, ℕ, List, [], ◌∷◌, ◌++◌, Option, Some, None, Result, Ok, Err, refl, sym, ap, ◌∙◌, subst, arith, append_assoc, append-nil}
 use Rattle.std.specs.List.{concat}
 use Rattle.std.specs.Io.KnownBytes.{Appends, Consumes, Keeps, IsAtEnd}
@@ -62,7 +62,7 @@ module _ {S W : Type 0} (from : SourceView S) (to : SinkView W) where
   device_front start pieces out input left last source_after sink sink_after split answered (at_sink f in_answer appended counted same) =
       front start input left (concat pieces) out (to.taken sink) (to.taken sink_after) split f answered appended
 
-  -- a run keeps what the source tells behind its last pull
+  -- after its last pull a run leaves the bytes that the source tells as they are
   kept_at : (last source_after : S) → last ≡ source_after → Keeps (from.coming last) (from.coming source_after)
   kept_at last source_after same = subst (λ (s : S). Keeps (from.coming last) (from.coming s)) same (Keeps-refl (from.coming last))
 

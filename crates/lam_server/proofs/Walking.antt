@@ -32,7 +32,7 @@ use Rattle.lam_server.proofs.Sending.{Sends-nothing, Sends-both, frames-append}
 
 -- ---- pulls
 
--- what is answered stays so, whatever goes out behind it
+-- what is answered stays answered, whatever is sent after it
 answered_more : (start : State) (out more read : List ℕ) → IsAnsweredIn start out read → IsAnsweredIn start (out ++ more) read
 answered_more start out more read a = record {
   done = a.done;
@@ -41,7 +41,7 @@ answered_more start out more read a = record {
   begins = ap (λ (l : List ℕ). l ++ more) a.begins ∙ append_assoc a.done a.more more;
 }
 
--- pulls that a turn needs are pulls that the run needs: what was whole before is answered
+-- pulls that a turn needs are pulls that the run needs: what was complete before is answered
 PulledWhile-run : {S : Type 0} (from : SourceView S) (start s : State) (read out more held : List ℕ) (source last : S) (pieces : List (List ℕ))
     → Turns start read out s held → IsLive s → PulledWhile from IsOpen held source pieces last → PulledWhile from (IsAnsweredIn start (out ++ more)) read source pieces last
 PulledWhile-run from start s read out more held source last [] turns live p = p
@@ -51,7 +51,7 @@ PulledWhile-run from start s read out more held source last (piece ∷ pieces) t
   (p.2.0, p.2.1, PulledWhile-run from start s (read ++ piece) out more (held ++ piece) p.2.0 last pieces (Turns-more start read piece out s held turns) live p.2.2),
 )
 
--- where a frame was found, no piece was empty: before the last one the bytes were open
+-- if a frame was found, no piece was empty: before the last one the bytes were open
 found_pieces : {S : Type 0} (from : SourceView S) (held body left : List ℕ) (source last : S) (pieces : List (List ℕ))
     → PulledWhile from IsOpen held source pieces last → OnlyLastEmpty pieces → HasFrame (held ++ concat pieces) body left → NoneEmpty pieces
 found_pieces from held body left source last [] p stopped frame = tt
@@ -300,7 +300,7 @@ module _ {S W : Type 0} (from : SourceView S) (to : SinkView W) where
         let says = says_memory t.pieces t.last source_after sink_after t.says.1 t.says.0 in
         ends t.pieces t.last says.0 (Err Memory) source_after sink_after t.needed t.stopped t.few says.1
 
-  -- no server came to be
+  -- no server could be created
   pub no_run : (start : State) (source : S) (sink : W) → IsLive start → Runs from to start source sink (Err Memory) source sink
   no_run start source sink live = record {
     pieces = [];

@@ -31,7 +31,7 @@ pub record Takes (s : State) (bytes out : List ℕ) (next : State) (left : List 
 abbrev pub IsLive : State → Type 0
 IsLive s = ended_status s.life ≡ None
 
--- Some messages at the start of the bytes are answered while the session has not ended: by these frames, which leads to this state and leaves these bytes.
+-- Some messages at the start of the bytes are answered by these frames while the session has not ended, which leads to this state and leaves these bytes.
 pub data Turns (start : State) (bytes : List ℕ) : List ℕ → State → List ℕ → Type 0 where
   no_turn : Turns start bytes [] start bytes
   next_turn : {done first : List ℕ} {s next : State} {left after : List ℕ}

@@ -72,7 +72,7 @@ pub record AnswersInput (start : State) (input : List ℕ) (outcome : Outcome) (
   pub allowed : IsAllowed start input out outcome
   pub appended : Appends taken taken_after out
 
--- Every message is answered that was complete before a last piece of these bytes, and that piece has at most 65,536 of them.
+-- Every message that was complete before a last piece of these bytes is answered, and that piece has at most 65,536 bytes.
 pub record AnswersAllButOnePiece (start : State) (read out : List ℕ) : Type 0 where
   pub earlier : List ℕ
   pub piece : List ℕ
@@ -80,7 +80,7 @@ pub record AnswersAllButOnePiece (start : State) (read out : List ℕ) : Type 0 
   pub small : length piece ≤ 65536
   pub answered : IsAnsweredIn start out earlier
 
--- The sink accepted a prefix of an output that is allowed for the bytes read, with the answers to all messages that were complete before such a piece.
+-- The sink accepted a prefix of an output that is allowed for the bytes read, with the answers to all messages that were complete before such a last piece.
 pub record AnswersFront (start : State) (input left : List ℕ) (taken taken_after : Option (List ℕ)) : Type 0 where
   pub read : List ℕ
   pub out : List ℕ

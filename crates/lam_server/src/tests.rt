@@ -1,4 +1,4 @@
-//! Tests that need in-memory devices: a run goes turn by turn and answers each message before it reads on, and what it leaves
+//! Tests that need in-memory devices: that a run goes turn by turn and answers each message before it reads on, and what it leaves
 //! when one call of a device fails.
 ghost use Rattle.std.specs.Prelude.{◌≡◌, Some, ⊤};
 

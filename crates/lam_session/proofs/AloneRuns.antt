@@ -1,4 +1,4 @@
--- What comes between does not change the answers about a document.
+-- Messages that do not concern a document do not change the answers about it.
 use Rattle.std.proofs.Common.{not, option_and_then, ◌≡◌, ℕ, ℤ, List, [], ◌∷◌, codes, Bool, true, false, cond, ◌||◌, Option, None, Some, option_map, refl, sym, ap, ◌∙◌, subst, true≢false}
 use Rattle.std.proofs.lemmas.Bool.{or_parts}
 use Rattle.std.proofs.lemmas.Slice.Eq.{bytes_eq-Decides}
@@ -117,11 +117,11 @@ does_same : (uri : List ℕ) (values : List Data) (after : State) (docs : List O
 does_same uri values after docs sent next agree d =
     (docs, (d.0, ap (λ (x : State). beside x docs) d.1), ap (λ (x : State). document_named uri x.documents) d.1 ∙ agree)
 
--- who agrees about a document agrees about its text
+-- lists that agree about a document agree about its text
 agree_text : (uri : List ℕ) (ds es : List OpenDocument) → document_named uri ds ≡ document_named uri es → open_text uri ds ≡ open_text uri es
 agree_text uri ds es agree = text_named uri ds ∙ ap (option_map (λ n. n.text)) agree ∙ sym (text_named uri es)
 
--- agreement about a uri is agreement about the text of an equal one
+-- lists that agree about a uri agree about the text of an equal one
 agree_named : (uri other : List ℕ) (ds es : List OpenDocument) → bytes_eq uri other ≡ true → document_named uri ds ≡ document_named uri es → open_text other ds ≡ open_text other es
 agree_named uri other ds es is agree = subst (λ (u : List ℕ). open_text u ds ≡ open_text u es) ((bytes_eq-Decides uri other).0 is) (agree_text uri ds es agree)
 
@@ -296,7 +296,7 @@ lives_same uri _ s docs m sent next agree is d = receives_same uri s docs m sent
 
 -- ---- one step that does not concern a document
 
--- nothing but other documents changes, and nothing is told of this one
+-- nothing but other documents changes, and nothing is published about this one
 abbrev Quiet : List ℕ → State → List Data → State → Type 0
 Quiet uri s sent next = (next ≡ beside s next.documents) × (document_named uri next.documents ≡ document_named uri s.documents) × SaysNothing uri sent
 
@@ -332,7 +332,7 @@ asks_quiet : (uri : List ℕ) (question : Question) (s : State) (id params : Dat
 asks_quiet uri question s id params sent next d =
     does_quiet uri s (d.reply ∷ []) s.documents sent next refl (reply_says uri d.reply (replies_quiet question (open_in s) id params (asked_place question params) d.reply d.replies)) d.does
 
--- a request that does not shape the session
+-- a request that does not belong to the lifecycle
 abbrev IsOther : RequestMethod → Type 0
 IsOther Initialize = ⊥
 IsOther Shutdown = ⊥

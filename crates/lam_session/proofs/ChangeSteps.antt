@@ -1,4 +1,4 @@
--- The steps of an open and of a change, from what their parts found.
+-- The steps for opening and for changing a document, from what their parts found.
 use Rattle.std.proofs.Common.{◌≡◌, ℕ, ℤ, List, true, Option, None, Some, is_some, option_map, refl, sym, ◌∙◌, ap, subst}
 use Rattle.serde_json.specs.Data.{Data}
 use Rattle.lam_rpc.specs.Fields.{named_uri}
@@ -8,7 +8,7 @@ use Rattle.lam_session.specs.State.{State}
 use Rattle.lam_session.specs.Sync.{Tells, Holds, given_version, opened_text, Opens, ChangesText}
 use Rattle.lam_session.proofs.EntryLemmas.{found_set}
 
--- what is told of the document that was set is told of the one that is held
+-- what is published about the open document is published about the one that was set, since they are the same
 told_of_set : (s next : State) (document : OpenDocument) (sent : List Data) → next ≡ record s { documents = with_document document s.documents }
     → ((text : List ℕ) → open_text document.uri next.documents ≡ Some text → Tells next.encoding next.dialect (record { uri = document.uri; text = text; version = document.version }) sent)
     → Holds s document sent next

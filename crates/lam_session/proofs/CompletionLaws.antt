@@ -11,7 +11,7 @@ use Rattle.lam_query.proofs.CompletionLaws.{some_completions, one_list_of_comple
 use Rattle.lam_session.specs.Completions.{item_kind, item_members, item_value, IsCompletionReply}
 use Rattle.lam_session.proofs.ReplyLemmas.{HasNoMethod, result_plain, result_has_no_method}
 
--- an entry is built from its detail, where it has one, its kind and its label
+-- a completion item is built from its detail, if it has one, its kind and its label
 members_put : (detail : Option (List ℕ)) (kind label : Data)
     → put (codes "label") label (put (codes "kind") kind (item_members detail no_members)) ≡ item_members detail (member (codes "kind") kind (member (codes "label") label no_members))
 members_put None kind label = refl

@@ -12,7 +12,7 @@ use Rattle.lam_session.specs.Derivations.{derivation_value, IsDerivationReply, G
 use Rattle.lam_session.proofs.Floatless.{derivation_floatless}
 use Rattle.lam_session.proofs.ReplyLemmas.{HasNoMethod, result_plain, result_has_no_method}
 
--- ---- a derivation is given where a type is shown, and none where none is
+-- ---- a derivation is given exactly where a type is shown
 
 clash : (text : List ℕ) (offset : ℕ) (derived : Derivation) (d : Dialect) → IsDerivedIn text offset None d → IsDerivedIn text offset (Some derived) d → ⊥
 clash text offset derived d none some =

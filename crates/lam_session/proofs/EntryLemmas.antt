@@ -1,4 +1,4 @@
--- What a change of the map is to the list of documents that it is seen as.
+-- What a change of the map does to the list of documents that the map is seen as.
 use Rattle.std.proofs.Common.{not, subst, true≢false, Bor, IfSome, ◌≡◌, ℕ, List, [], ◌∷◌, Bool, true, false, cond, Option, None, Some, option_map, is_some, String, Global, string_bytes, refl, sym, ap, ◌∙◌}
 use Rattle.std.proofs.lemmas.Slice.Eq.{bytes_eq-Decides}
 use Rattle.std.specs.Str.{bytes_eq}
@@ -89,7 +89,7 @@ written_later : (b : Bool) (e : Entry) (rest : Option HeldDocument) (o : HeldDoc
 written_later true e rest o h is = cc
 written_later false e rest o h is = is
 
--- the document that an entry of this uri becomes
+-- the document that is written to an entry of this uri
 abbrev pub document_at : List ℕ → HeldDocument → OpenDocument
 document_at uri w = record { uri = uri; text = w.text; version = w.version }
 
@@ -117,7 +117,7 @@ none_passes : (b : Bool) (e : Entry) (rest : Option HeldDocument) (docs kept : L
 none_passes true e rest docs kept later is = cc
 none_passes false e rest docs kept later is = ap (λ ds. document_of e ∷ ds) (later is)
 
--- without a document of this uri none goes
+-- if there is no document of this uri, none is removed
 none_goes : (uri : List ℕ) (es : List Entry) → lookup (is_uri uri) es ≡ None → without_document uri (documents_of es) ≡ documents_of es
 none_goes uri [] is = refl
 none_goes uri (e ∷ es) is = none_passes (is_uri uri e.0) e (lookup (is_uri uri) es) (documents_of es) (without_document uri (documents_of es)) (none_goes uri es) is

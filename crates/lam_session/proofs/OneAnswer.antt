@@ -1,4 +1,4 @@
--- Each message has an answer, and one alone, but for replies that may vary; so has each list of messages.
+-- Each message has an answer, and only one, except for replies that may vary; the same is true of each list of messages.
 use Rattle.std.proofs.Common.{◌≡◌, inl, inr, ℕ, ℤ, List, [], ◌∷◌, map, Option, None, Some, refl, sym, ap, subst, ◌∙◌}
 use Rattle.serde_json.specs.Data.{Data}
 use Rattle.lam_rpc.specs.Fields.{named_uri, listed_changes}

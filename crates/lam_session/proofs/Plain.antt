@@ -1,4 +1,4 @@
--- What a step sends holds no float where the request's id holds none: so its text is known.
+-- What a step sends holds no float if the request's id holds none, so its text is known.
 use Rattle.std.proofs.Common.{ℕ, ℤ, pos, negsuc, Option, None, Some, ◌≡◌, zero, suc, List, [], ◌∷◌, map, false, refl, subst, sym, arith}
 use Rattle.std.specs.List.{All, AllByRecursion}
 use Rattle.std.proofs.lemmas.List.Elements.{All-from_recursion}
@@ -139,11 +139,11 @@ lives_plain _ s m sent next h d = receives_plain s m sent next h d
 pub steps_plain : (s : State) (m : Message) (sent : List Data) (next : State) → HasPlainId m → Steps s m sent next → NoFloats sent
 steps_plain s m sent next h d = lives_plain s.life s m sent next h d
 
--- the same of each value that is sent
+-- the same for each value that is sent
 pub sent_plain : (s : State) (m : Message) (sent : List Data) (next : State) → HasPlainId m → Steps s m sent next → All (λ (d : Data). has_float d ≡ false) sent
 sent_plain s m sent next h d = All-from_recursion (λ (x : Data). has_float x ≡ false) sent (steps_plain s m sent next h d)
 
--- and of each item that stands for such a value
+-- and for each item that stands for such a value
 pub each_plain : {A : Type 0} (shown : A → Data) (items : List A) → NoFloats (map shown items) → All (λ x. has_float (shown x) ≡ false) items
 each_plain shown [] h k d l = absurd (omega arith)
 each_plain shown (x ∷ xs) h zero d l = h.0

@@ -1,4 +1,4 @@
--- What holds of the replies to every question, stated once for each question: so the laws of steps have one case for all of them.
+-- What holds of the replies to every question, stated once for each question, so that the laws of steps have one case for all of them.
 use Rattle.std.proofs.Common.{◌≡◌, ◌⊎◌, inl, false}
 use Rattle.serde_json.specs.Data.{Data}
 use Rattle.serde_json.specs.Written.{has_float}

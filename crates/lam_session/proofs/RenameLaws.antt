@@ -32,7 +32,7 @@ some_refusal text offset new fault.WrongKind right = (refusal.WrongKind, refl)
 some_refusal text offset new fault.ChangesBinding right = (refusal.ChangesBinding, refl)
 some_refusal text offset new fault.Memory right = absurd right
 
--- what has a refusal is no want of memory
+-- a fault that has a refusal is not a failed allocation
 not_memory : (f : RenameFault) (r : Refusal) → Some r ≡ refusal_of f → f ≢ fault.Memory
 not_memory f r is memory = let clash : Some r ≡ None = is ∙ ap refusal_of memory in cc
 

@@ -17,7 +17,7 @@ use Rattle.lam_query.specs.Renames.{IsRenamed}
 use Rattle.lam_query.proofs.RenamedRows.{renamed_places}
 use Rattle.lam_session.specs.Renames.{change_of}
 
--- ---- no name ends a line, or goes on with a line end
+-- ---- no line end is cut where a name begins or ends
 
 -- no byte of these is a CR or an LF
 abbrev HasNoLineEnd : List ℕ → Type 0

@@ -8,7 +8,7 @@ use Rattle.lam_session.specs.Refusals.{refused}
 use Rattle.lam_session.specs.declared.refusals.Refusal.{Refusal}
 use Rattle.lam_session.specs.declared.refusals.Refusal.TheVariants.{UnreadableMessage, InvalidMessage, AlreadyInitialized, ShutDown, NotInitialized, MethodNotFound, InvalidParams, DocumentNotOpen, NotAName, UnparsedCommand, NoBoundName, WrongKind, ChangesBinding}
 
--- no notice is meant by it
+-- the value has no method, so it is no notification
 abbrev pub HasNoMethod : Data → Type 0
 HasNoMethod d = get (codes "method") d ≡ None
 

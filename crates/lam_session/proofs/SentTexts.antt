@@ -20,7 +20,7 @@ behind_comma : (ds : List Data) → text_behind (44 ∷ []) ds ≡ items_text tr
 behind_comma [] = refl
 behind_comma (d ∷ ds) = refl
 
--- one value more
+-- one more value
 pub text_more : {A : Type 0} (shown : A → Data) (text separator one : List ℕ) (xs : List A) (i : ℕ) (x : A) → i < length xs → one ≡ compact_text (shown (get_or xs i x))
     → ((text ++ separator) ++ one) ++ text_behind (44 ∷ []) (map shown (drop (i + 1) xs)) ≡ text ++ text_behind separator (map shown (drop i xs))
 text_more shown text separator one xs i x inside is =

@@ -6,7 +6,7 @@ use Rattle.lam_session.specs.State.{State, fresh}
 use Rattle.lam_session.proofs.AloneRuns.{isolated}
 use Rattle.lam_session.proofs.OneAnswer.{one_run}
 
--- states that are one, each to a state that is the same
+-- states that are the same for a document as one and the same state are the same for it
 same_through : (uri : List ℕ) (s t u v : State) → SameFor uri s t → t ≡ u → SameFor uri v u → SameFor uri s v
 same_through uri s t u v h is k = record {
   life = h.life ∙ ap (λ (x : State). x.life) is ∙ sym k.life;

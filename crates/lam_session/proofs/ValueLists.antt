@@ -1,4 +1,4 @@
--- Lists of values that are built one behind the other.
+-- Lists of values that are built one value after the other.
 use Rattle.std.proofs.Common.{◌≡◌, ℕ, ◌+◌, ◌<◌, List, [], ◌∷◌, ◌++◌, length, drop, map, get_or, drop-cons, add-one, sym, refl, ap, ◌∙◌, ◌≤◌, append-nil, append_assoc}
 use Rattle.std.proofs.Math.ListN.{drop_of_length-le}
 use Rattle.std.proofs.lemmas.Simd.{map-map}
@@ -37,7 +37,7 @@ number_more shown values more v xs i x inside shows pushed so_far =
     ∙ ap (λ l. map view values ++ map shown l) (sym (drop-cons xs i x inside))
     ∙ so_far
 
--- the same of a list of anything
+-- the same for a list of anything
 pub item_more : {A B : Type 0} (f : A → B) (done more : List B) (b : B) (xs : List A) (i : ℕ) (x : A)
     → i < length xs → b ≡ f (get_or xs i x) → more ≡ done ++ b ∷ []
     → done ++ map f (drop i xs) ≡ map f xs → more ++ map f (drop (i + 1) xs) ≡ map f xs
@@ -52,7 +52,7 @@ item_more f done more b xs i x inside is pushed so_far =
 pub all_items : {A B : Type 0} (f : A → B) (done : List B) (xs : List A) (i : ℕ) → length xs ≤ i → done ++ map f (drop i xs) ≡ map f xs → done ≡ map f xs
 all_items f done xs i past so_far = sym (ap (λ l. done ++ map f l) (drop_of_length-le xs past) ∙ append-nil done) ∙ so_far
 
--- where none is to come, the values so far are all
+-- if none is to come, the values so far are all
 pub all_told : {V A : Type 0} (told : V → Data) (shown : List A → List Data) (values : List V) (xs : List A) (i : ℕ) → shown [] ≡ [] → length xs ≤ i
     → map told values ++ shown (drop i xs) ≡ shown xs → map told values ≡ shown xs
 all_told told shown values xs i none past so_far =
@@ -63,6 +63,6 @@ pub all_shown : {A : Type 0} (shown : List A → List Data) (values : List Value
     → map view values ++ shown (drop i xs) ≡ shown xs → map view values ≡ shown xs
 all_shown shown values xs i none past so_far = all_told view shown values xs i none past so_far
 
--- what a function shows of the values of another it shows of what these are of
+-- what is shown of each `f x` is what `shown` after `f` shows of each x
 pub shown_through : {A B : Type 0} (shown : B → Data) (f : A → B) (ys : List B) (xs : List A) → ys ≡ map f xs → map shown ys ≡ map (λ x. shown (f x)) xs
 shown_through shown f ys xs is = ap (map shown) is ∙ map-map shown f xs

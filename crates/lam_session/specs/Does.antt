@@ -5,7 +5,7 @@ use Rattle.lam_session.specs.Refusals.{refused}
 use Rattle.lam_session.specs.State.{State}
 use Rattle.lam_session.specs.declared.refusals.Refusal.{Refusal}
 
--- These values are sent, and this is the state after it.
+-- These values are sent, and this is the state after the step.
 abbrev pub Does : List Data → State → List Data → State → Type 0
 Does values after sent next = (sent ≡ values) × (next ≡ after)
 

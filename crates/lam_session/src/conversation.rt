@@ -272,7 +272,7 @@ impl Conversation {
         ensures { IfOk result (λ r. Changes self (view params) (map data_of r.1.items) r.0) }
     {
         let told = self.told_change(&params)?;
-        // If kept, blocks of the message would occupy the memory that the old analysis frees for the new one.
+        // If the params were kept, their blocks would occupy the memory that the old analysis frees for the new one.
         drop(params);
         match told {
             Some(change) => self.apply(&change.uri, &change.changes, change.version),

@@ -48,7 +48,7 @@ impl Model for Document {
 }
 
 impl Document {
-    /// Creates a document with this text, and analyses it.
+    /// Creates a document with this text, and analyzes it.
     pub fn new(
         alloc: Global,
         text: &str,
@@ -130,7 +130,7 @@ impl Document {
         self.analysis().hover(alloc, self.doc.text(), offset)
     }
 
-    /// Returns the derivation of that type.
+    /// Returns a derivation of the least type of the innermost term around a position.
     pub fn derivation(
         &self,
         alloc: Global,
@@ -196,7 +196,7 @@ impl Document {
     }
 }
 
-/// Analyses a text, starting from the analysis of the text that it was changed from, if there is one.
+/// Analyzes a text, starting from the analysis of the text that it was changed from, if there is one.
 fn analysed(
     alloc: Global,
     known: Option<Analysis>,

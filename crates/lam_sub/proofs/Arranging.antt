@@ -34,7 +34,7 @@ has_type_under l s (field k u fs) (inr has) = by (bytes_eq k l) refl (has_type_u
 pub type_under_is : (l : Label) (s : Typ) (fs : Fields) → AreWellFormed fs → Has l s fs → type_under l fs ≡ s
 type_under_is l s fs wf has = one_type fs wf l (type_under l fs) s (has_type_under l s fs has) has
 
--- the fields of the first, those whose labels the second has in its order, then the others in their own
+-- the fields of the first list: those whose labels the second has, in the second's order, then the others in their own
 abbrev pub arranged : Fields → Fields → Fields
 arranged fs gs = joined (picked fs gs) (other_fields fs gs)
 
@@ -88,7 +88,7 @@ arranged_permutes fs gs wf wg labels =
     back l s (inl has) = (picked_are fs gs labels l s has).0
     back l s (inr has) = (others_are fs gs l s has).0
 
--- a record type is below another where each field above has one below
+-- a record type is below another if each field above has one below
 pub record_below : (fs gs : Fields) (d : Dialect) → AreWellFormed fs → AreWellFormed gs → AreBelow fs gs d → IsBelow (record_of fs) (record_of gs) d
 record_below fs gs d wf wg below =
     let labels = below_labels fs gs d below in

@@ -14,7 +14,7 @@ use Rattle.lam_sub.proofs.Arranging.{record_below}
 pub bool_below_nat : IsBelow bool nat Dialect.Two
 bool_below_nat = (sub_step SubRule.BoolNat bool nat no_subs, ((tt, tt, tt, (refl, refl), tt), refl))
 
--- part by part, and so by the rules
+-- what is below another type part by part is below it by the rules
 mutual
   pub under_below : (d : Dialect) (s t : Typ) → Under d s t → IsWellFormed s → IsWellFormed t → IsBelow s t d
   under_below d _ _ under_bool ws wt = below_refl bool d tt

@@ -23,7 +23,7 @@ false_here n = ((λ f. absurd (cc f)), (λ a. absurd (n a)))
 pub at_top : (s t : Ty) (d : Dialect) → t ≡ Top → IsWellFormed (typ_of s) → IsTrue true ↔ IsBelow (typ_of s) (typ_of t) d
 at_top s t d is wf = true_here (rw (is, typ_of-Top) (below_top (typ_of s) d wf))
 
--- one type twice
+-- both types are the same
 pub at_same : (s t : Ty) (d : Dialect) → s ≡ t → IsWellFormed (typ_of s) → IsTrue true ↔ IsBelow (typ_of s) (typ_of t) d
 at_same s t d is wf = true_here (subst (λ u. IsBelow (typ_of s) (typ_of u) d) is (below_refl (typ_of s) d wf))
 
@@ -84,7 +84,7 @@ nodes_of_record t xs seen = ap nodes (sym seen)
 pub nodes_of_arrow : (t a b : Ty) (x y : Rc Ty Global) → t ≡ Arrow x y → a ≡ x.value → b ≡ y.value → nodes (typ_of t) ≡ 1 + nodes (typ_of a) + nodes (typ_of b)
 nodes_of_arrow t a b x y is is_a is_b = rw (is_a, is_b) (ap nodes (ap typ_of is ∙ typ_of-Arrow x y))
 
--- what is left beside Top, arrows and records
+-- what is left besides Top, arrows and records
 pub only_bool_and_nat : (s t : Ty) (d : Dialect) → (t ≡ Top → ⊥) → ((x y : Rc Ty Global) → t ≡ Arrow x y → ⊥) → ((fs : RustFields) → t ≡ Record fs → ⊥)
     → (typ_of s ≡ typ_of t → ⊥) → IsBelow (typ_of s) (typ_of t) d → (typ_of s ≡ bool) × (typ_of t ≡ nat) × (d ≡ Dialect.Two)
 only_bool_and_nat s t d = ty_cases

@@ -1,4 +1,4 @@
--- Answers that are kept stay right: one more is, and a table grows.
+-- Answers that are kept stay right when one more is kept, and when the table grows.
 use Rattle.std.proofs.Common.{◌≡◌, ◌↔◌, List, Bool, true, false, cond, IsTrue, sym, refl, subst, arith, Option, Some, None, IfSome}
 use Rattle.std.specs.Prelude.{eqb}
 use Rattle.std.proofs.lemmas.Bool.{and_parts}
@@ -24,7 +24,7 @@ same_pair p q e =
     let both = and_parts (eqb p.0.index q.0.index) (eqb p.1.index q.1.index) e in
     λ i. (record { index = eqb-true p.0.index q.0.index both.0 i }, record { index = eqb-true p.1.index q.1.index both.1 i })
 
--- one answer more, or none where a growth was refused
+-- one more answer
 
 pub kept_more : {X : Type 0} (IsAnswer : TyNo × TyNo → X → Type 0) (m n : HashMap (TyNo × TyNo) X (BuildHasherDefault FoldHasher)) (pair : TyNo × TyNo) (x : X)
     → Updates equal_pairs m n pair (Some x) → AllKept IsAnswer m → IsAnswer pair x → AllKept IsAnswer n
@@ -43,7 +43,7 @@ both_kept old now pair keeps stand =
     let other = stand.1 in
     (omega arith, omega arith)
 
--- a statement on the types of two numbers is one in the table that has grown
+-- what holds of the types of two numbers still holds when the table has grown
 pub pair_kept : (old now : List Typ) (pair : TyNo × TyNo) (P : Typ → Typ → Type 0) → Keeps old now → BothStand old pair
     → P (type_of old pair.0) (type_of old pair.1) → P (type_of now pair.0) (type_of now pair.1)
 pair_kept old now pair P keeps stand p =

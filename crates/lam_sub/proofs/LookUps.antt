@@ -17,7 +17,7 @@ use Rattle.lam_rules.proofs.Permutations.{absent_not}
 use Rattle.lam_rules.proofs.TypeShapes.{fields_of-drop, joined-push}
 use Rattle.lam_sub.specs.OtherFields.{is_label_of, other_fields}
 
--- a label is one of the fields' or it is none of theirs
+-- some field has the label, or none has it
 pub label_or : (l : Label) (fs : Fields) → ((t : Typ) × Has l t fs) ⊎ IsAbsent l fs
 label_or l no_fields = inr tt
 label_or l (field k t fs) = by (bytes_eq k l) refl (label_or l fs)
@@ -162,7 +162,7 @@ absent_cut fs n l a b =
     subst (λ gs. IsAbsent l (fields_of gs)) (take-append-drop n fs)
     (subst (λ r. IsAbsent l r) (sym (fields_of-append (take n fs) (drop n fs))) (absent_in_both (fields_of (take n fs)) (fields_of (drop n fs)) l a b))
 
--- the first that is met from a place on, and then from the front
+-- the first field with a label: from an index on, and then from the front
 
 either_mapped : {X Y : Type 0} (v : X → Y) (o p : Option X) → option_map v (option_or o p) ≡ option_or (option_map v o) (option_map v p)
 either_mapped v None p = refl
@@ -176,7 +176,7 @@ first_of_two l fs front back near n is in_front behind =
     ∙ ap (λ gs. option_or (first_under l gs) (first_under l (take near fs))) (sym (behind ∙ ap (λ m. drop m fs) is ∙ drop_min near fs))
     ∙ ap (λ gs. option_or (first_under l back) (first_under l gs)) (sym (in_front ∙ ap (λ m. take m fs) is ∙ take_min near fs))
 
--- it is met in the one part, or in the other
+-- the field is found in the first part that is searched, or else in the second
 
 pub met_in_one : {X : Type 0} (o p q : Option X) (x : X) → q ≡ option_or o p → Some x ≡ o → Some x ≡ q
 met_in_one o p q x whole e = sym (whole ∙ ap (λ a. option_or a p) (sym e))
@@ -192,11 +192,11 @@ pub seen_in_other : {X Y : Type 0} (v : X → Y) (o p q : Option X) (r : Option 
 seen_in_other v None p q r whole none e = e ∙ ap (option_map v) (sym whole)
 seen_in_other v (Some x) p q r whole none e = cc
 
--- a field at a place is one of the fields
+-- a field at an index is one of the fields
 pub item_has : (fs : List (String Global × Ty)) (i : ℕ) (f : String Global × Ty) → i < length fs → f ≡ get_or fs i f → Has (string_bytes f.0) (typ_of f.1) (fields_of fs)
 item_has fs i f lt is = has_back fs i (string_bytes f.0) (typ_of f.1) (has_here fs i f (string_bytes f.0) lt is refl)
 
--- what is known of a look-up whose answer was only told to be one or none
+-- what is known of a look-up if only a test has shown whether it found anything
 
 pub some_there : {X : Type 0} {P : X → Type 0} (r : Option X) (b : Bool) → b ≡ is_some r → b ≡ true → IfSome r P → (x : X) × P x
 some_there (Some x) b e h p = (x, p)
@@ -210,7 +210,7 @@ pub none_then : {X : Type 0} {A B : Type 0} (r : Option X) → IfNone r A → (A
 none_then (Some x) a f = tt
 none_then None a f = f a
 
--- others appended one by one: the next is one of the known, or it is appended
+-- others appended one by one: the label of the next field is known, or the field is appended
 
 pub append_known : (made fs : Fields) (l : Label) (s t : Typ) (gs whole : Fields) → Has l t gs
     → joined made (other_fields (field l s fs) gs) ≡ whole → joined made (other_fields fs gs) ≡ whole

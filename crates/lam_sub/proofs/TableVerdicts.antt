@@ -19,7 +19,7 @@ use Rattle.lam_sub.proofs.LookUps.{has_in_first, has_in_second, absent_in_both}
 use Rattle.lam_sub.proofs.Below.{bool_below_nat, below_bool, below_nat, below_unit, below_arrow_is, below_record_is, arrow_iff}
 use Rattle.lam_sub.proofs.ByVariant.{true_here, false_here}
 
--- sorted types lie below each other as the types do
+-- one sorted type is below another exactly if the types are
 
 pub sorted_iff : (s t : Typ) (d : Dialect) → IsWellFormed s → IsWellFormed t → IsBelow (sorted s) (sorted t) d ↔ IsBelow s t d
 sorted_iff s t d ws wt = (
@@ -75,7 +75,7 @@ shape_no_record ts s gs d n = false_here (λ below. by s n (below_record_is (sha
     by (Shape.Record fs) m e = m fs refl
     by _ m e = cc
 
--- labelled numbers
+-- labeled numbers
 
 pub fields_over-append : (ts : List Typ) (fs gs : List (String Global × TyNo)) → fields_over ts (fs ++ gs) ≡ joined (fields_over ts fs) (fields_over ts gs)
 fields_over-append ts [] gs = refl

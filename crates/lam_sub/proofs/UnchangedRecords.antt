@@ -52,7 +52,7 @@ depth_same no_fields (field l t gs) cs by own = absurd by
 depth_same (field k s fs) no_fields cs by own = absurd by
 depth_same (field k s fs) (field l t gs) [] by own = absurd by
 
--- different lengths
+-- lists of different lengths do not have the same labels
 pub labels_not : (fs gs : List (String Global × Ty)) → length fs ≢ length gs → HaveSameLabels (fields_of fs) (fields_of gs) → ⊥
 labels_not [] [] ne same = ne refl
 labels_not (f ∷ fs) (g ∷ gs) ne same = labels_not fs gs (λ e. ne (ap suc e)) same.1
@@ -76,7 +76,7 @@ abbrev fields_under : Typ → Fields
 fields_under (record_of fs) = fs
 fields_under _ = no_fields
 
--- by any rule
+-- a step by any rule changes nothing if its labels are the same and its premises change nothing
 pub unchanged : (rule : SubRule) (fs gs : Fields) (cs : List Claim) → AreWellFormed fs → BySubRule rule cs (record_of fs) (record_of gs)
     → HaveSameLabels fs gs → AreReflexive cs → fs ≡ gs
 unchanged SubRule.Refl fs gs [] wf by same own = ap fields_under by

@@ -39,7 +39,7 @@ pub fn prove_sub(
     Ok(Some(proof))
 }
 
-/// The proof of a subtyping that is known to hold. Whether two arrows or two records are equal is told by the proofs of
+/// The proof of a subtyping that is known to hold. Whether two arrows or two records are equal is seen from the proofs of
 /// their parts, so that no level compares what is below it again.
 #[cycle(prove)]
 fn prove(alloc: Global, lower: &Ty, upper: &Ty, dialect: Dialect) -> Result<SubProof, AllocError>

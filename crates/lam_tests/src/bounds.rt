@@ -201,7 +201,7 @@ fn sides(table: &mut TyTable) -> Result<(TyNo, TyNo), AllocError>
     Ok((left, right))
 }
 
-/// Their bounds: the same doublings of the empty record and of `{a:Nat, b:Nat}`.
+/// The bounds of these types: the same doublings of the empty record and of `{a:Nat, b:Nat}`.
 #[tactic(auto, using(lam_rules::proofs::Tables::numbers))]
 fn expected(table: &mut TyTable) -> Result<(TyNo, TyNo), AllocError> {
     let nat = table.intern(Shape::Nat)?;

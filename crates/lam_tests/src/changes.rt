@@ -38,7 +38,7 @@ fn push_command(text: &mut String, uses: Uses, i: usize) -> Result<(), AllocErro
     }
 }
 
-/// How many are typed when the text is read, and how many more when `other` is put in.
+/// How many commands are typed when the text is read, and how many more when `other` is put in.
 fn typed(alloc: Global, change: (Uses, usize, &str)) -> Result<String, AllocError> {
     let (uses, number, other) = change;
     let old = commands(alloc, uses, 1000, "")?;
@@ -71,7 +71,7 @@ const CHANGES: [((Uses, usize, &str), &str); 21] = [
     ((Previous, 999, "x999 = true;"), "1000 1"),
     // The name is bound again to the type that it had, so the change ends there.
     ((Previous, 500, "x500 = true; x500 = 0;"), "1000 2"),
-    // Each uses the first.
+    // Each command uses the first one.
     ((First, 0, "x0 = 1;"), "1000 1"),
     ((First, 0, "x0 = true;"), "1000 1000"),
     ((First, 500, "y500 = x0;"), "1000 1"),
@@ -118,7 +118,7 @@ fn typed_beside(alloc: Global, names: usize) -> Result<String, AllocError> {
     format!(in alloc; "{before} {}", analysis.commands_typed())
 }
 
-/// The table of names has an entry for each of them, and the table of types at most ten. So the tables exceed 8,192 entries
+/// The table of names has an entry for each name, and the table of types at most ten. So the tables exceed 8,192 entries
 /// only in the second row, where the last change starts from scratch.
 const OUTGROWN: [(usize, &str); 2] = [(8000, "8001 8002"), (9000, "9001 9001")];
 

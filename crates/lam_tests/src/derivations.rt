@@ -153,7 +153,7 @@ fn of_record(
     derived(alloc, (&text, 4, One))
 }
 
-/// Of 1,999 tokens: three a field, 498 commas, two braces, the name and its equals sign.
+/// A command of 1,999 tokens: three a field, 498 commas, two braces, the name and its equals sign.
 #[test]
 fn a_record_of_499_fields(rt: HostRuntime) -> Result<(), Fail> {
     let sorted = labelled(rt.alloc(), 200, 699, ":Nat")?;
@@ -162,7 +162,7 @@ fn a_record_of_499_fields(rt: HostRuntime) -> Result<(), Fail> {
     Ok(())
 }
 
-/// Of 1,998 tokens: three a field, 496 commas, two braces, and nine around them.
+/// A command of 1,998 tokens: three a field, 496 commas, two braces, and nine around them.
 #[test]
 fn a_written_type_of_497_fields(rt: HostRuntime) -> Result<(), Fail> {
     let sorted = labelled(rt.alloc(), 200, 697, ":Nat")?;

@@ -77,7 +77,7 @@ fn environment_of<'a>(alloc: Global, outside: Outside) -> Result<Environment<'a>
     Ok(environment)
 }
 
-/// The context entries of its names.
+/// The context entries of the names in this environment.
 fn entries_of(alloc: Global, outside: Outside) -> Result<Vec<Option<TyNo>>, AllocError>
     ensures { IfOk result (λ entries. (ts : List Typ) → Stands ts outside.natural → Stands ts outside.function → AllStandIn ts entries.items) }
 {
@@ -87,7 +87,7 @@ fn entries_of(alloc: Global, outside: Outside) -> Result<Vec<Option<TyNo>>, Allo
     Ok(entries)
 }
 
-/// Those, and one more inside them.
+/// These entries, and one more inside them.
 fn entries_with(
     alloc: Global,
     outside: Outside,
@@ -154,7 +154,7 @@ fn push_free(line: &mut String, alloc: Global, command: &Command) -> Result<(), 
     line.push_str("| ")
 }
 
-/// The diagnostics of its written types.
+/// The diagnostics of a command's written types.
 fn push_faults(line: &mut String, faults: &[TypeFault]) -> Result<(), AllocError> {
     for fault in faults {
         match fault {
@@ -179,7 +179,7 @@ fn push_type(line: &mut String, table: &TyTable, number: Option<TyNo>) -> Result
     }
 }
 
-/// The types of its subterms.
+/// The types of a command's subterms.
 fn push_types(
     line: &mut String,
     table: &TyTable,
@@ -195,7 +195,7 @@ fn push_types(
     push_types(line, table, others)
 }
 
-/// Those of them that are at fault, with the codes.
+/// The subterms that are at fault, with the codes.
 fn push_blames(line: &mut String, blames: &[Blame]) -> Result<(), AllocError> {
     for blame in blames {
         write!(line, "{} {}; ", blame.place.0, blame.code)?;
@@ -203,7 +203,7 @@ fn push_blames(line: &mut String, blames: &[Blame]) -> Result<(), AllocError> {
     line.push_str("| ")
 }
 
-/// All that was found for its subterms, and its entry.
+/// All that was found for a command's subterms, and its entry.
 fn push_checked(line: &mut String, table: &TyTable, checked: &Checked) -> Result<(), AllocError>
     requires types { AllStandIn table.now checked.now.types.items }
     requires entry { StandsIfAny table.now checked.now.entry }

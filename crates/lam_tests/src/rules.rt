@@ -56,7 +56,7 @@ fn labelled_twice(alloc: Global) -> Result<Ty, AllocError> {
     make_record(alloc, items)
 }
 
-/// Its texts.
+/// The texts of that type.
 fn texts_of_twice(alloc: Global) -> Result<String, AllocError> {
     let twice = labelled_twice(alloc)?;
     let mut shown = plain_text_of(alloc, &twice)?;
@@ -64,7 +64,7 @@ fn texts_of_twice(alloc: Global) -> Result<String, AllocError> {
     Ok(shown)
 }
 
-/// Whether it is a subtype of itself by reflexivity.
+/// Whether that type is a subtype of itself by reflexivity.
 fn twice_below_itself(alloc: Global) -> Result<bool, AllocError> {
     let proof = SubProof {
         rule: SubRule::Refl,
@@ -347,7 +347,7 @@ const LIFTED: &[TypeStep] = &[
     (TypeRule::App, "Nat", 2, &[]),
 ];
 
-/// Without T-Sub over the argument.
+/// The steps of a typing without T-Sub over the argument.
 const UNLIFTED: &[TypeStep] = &[
     (TypeRule::Var, "{x:Nat}", 0, &[]),
     (TypeRule::Proj, "Nat", 1, &[]),

@@ -68,7 +68,7 @@ fn numbers_below(
     Ok((first, again, table.same(lower_number, upper_number)))
 }
 
-/// All of this as one text.
+/// How two types are related, as one text: the verdict on their trees, and the results of the functions above.
 fn related(alloc: Global, lower: &Ty, upper: &Ty, dialect: Dialect) -> Result<String, AllocError>
     requires lower { IsWellFormed (typ_of lower.now) }
     requires upper { IsWellFormed (typ_of upper.now) }

@@ -16,7 +16,7 @@ use std::test::Fail;
 const DOUBLED: &str =
     "x0 = {a=0, b=0}; x1 = {a=x0, b=x0}; x2 = {a=x1, b=x1}; x3 = {a=x2, b=x2}; x4 = {a=x3, b=x3}; x5 = {a=x4, b=x4}; x6 = {a=x5, b=x5}; x7 = {a=x6, b=x6}; x8 = {a=x7, b=x7}; x9 = {a=x8, b=x8}; x10 = {a=x9, b=x9};";
 
-/// The error of analysing a document that continues with `more`.
+/// The error of analyzing a document that continues with `more`.
 fn fault_behind(alloc: Global, more: &str) -> Result<String, Fail> {
     let resolved = resolved_of(alloc, &format!(in alloc; "{DOUBLED}{more}")?)?;
     match analyse(alloc, &resolved, One).err() {

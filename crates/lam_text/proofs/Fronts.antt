@@ -1,4 +1,4 @@
--- The position of a place in a text is told by the text in front of it, and means that place in each text that begins so.
+-- The position of a place in a text depends only on the text in front of it, and means that place in each text that begins in the same way.
 use Rattle.std.proofs.Common.{◌≡◌, ℕ, ◌+◌, ◌-◌, true, false, ltb, List, [], ◌∷◌, ◌++◌, length, take, refl, ap, sym, ◌∙◌, subst, arith, add-one}
 use Rattle.std.specs.List.{list_all}
 use Rattle.std.specs.Str.{chars, IsUtf8}
@@ -16,7 +16,7 @@ use Rattle.lam_text.proofs.RowLemmas.{length-line_bytes, IsUtf8-around}
 use Rattle.lam_text.proofs.Lookups.{some_end}
 use Rattle.lam_text.proofs.LawLemmas.{front_within-units}
 
--- where a front of a text ends in a CR, no LF follows
+-- if a front of a text ends in a CR, no LF follows
 abbrev pub NoLfAfterCr : (front after : List ℕ) → Type 0
 NoLfAfterCr front after = (ahead : List ℕ) → front ≡ ahead ++ 13 ∷ [] → begins_with_lf after ≡ false
 
@@ -46,7 +46,7 @@ joined_line : (bytes : List ℕ) (ending : LineEnd) (front more : List ℕ) → 
 joined_line bytes ending front more =
     append_assoc bytes (end_bytes ending ++ front) more ∙ ap (λ l. bytes ++ l) (append_assoc (end_bytes ending) front more)
 
--- where the front's own line ends in a CR, what is behind it is what follows
+-- if the front is one line that a CR ends, no LF follows
 no_lf_at_end : (bytes : List ℕ) (ending : LineEnd) (front rest after : List ℕ) → front ≡ bytes ++ (end_bytes ending ++ rest) → NoLfAfterCr front after → ending ≡ Cr → rest ≡ [] → begins_with_lf after ≡ false
 no_lf_at_end bytes ending front rest after splits no_lf is none = no_lf bytes (splits ∙ (λ i. bytes ++ (end_bytes (is i) ++ none i)))
 
@@ -145,7 +145,7 @@ module _ (encoding : Encoding) (lines : List Line) (last front : List ℕ) (spel
           ap (λ ls. offset_on encoding ls end_of_front) (sym (lines_of-only (front ++ after) (Cut (lines ++ more) end) (joined_spell lines more last end front after spell no_lf cut)))
           ∙ lines_sum encoding lines more last end front (units_in encoding last) spell here
 
--- and this means the place behind the front in each text that begins so
+-- and this position means the place behind the front in each text that begins with it
 pub comes_back_to_front : (encoding : Encoding) (front after other : List ℕ) → IsUtf8 front → NoLfAfterCr front after → NoLfAfterCr front other
     → offset_of encoding (front ++ other) (position_of encoding (front ++ after) (length front)) ≡ length front
 comes_back_to_front encoding front after other utf8 no_lf no_other = go (lines_of front) (IsCutOf-lines_of front)

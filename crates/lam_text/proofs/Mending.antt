@@ -29,7 +29,7 @@ prefix_len-ended_in k open_line at (b ∷ xs) lf ys low high =
       | inr open_still ↦ rw open_still (prefix_len-ended_in k (grown open_line b) (at + 1) xs lf ys low (omega arith))
     ]
 
--- no line starts by `k` where the first starts after it
+-- no line starts at `k` or before if the open one starts after it
 prefix_len-marks_from_none : (k : ℕ) (open_line : Mark) (at : ℕ) (xs : List ℕ) → k < open_line.start → prefix_len (starts_by k) (marks_from open_line at xs) ≡ 0
 prefix_len-marks_from_none k open_line at [] high = rw (lt-leb open_line.start k high) refl
 prefix_len-marks_from_none k open_line at (b ∷ xs) high =
@@ -46,7 +46,7 @@ prefix_len-marks_from k open_line at (b ∷ xs) low high =
       | inr open_still ↦ rw open_still (prefix_len-marks_from k (grown open_line b) (at + 1) xs low (omega arith))
     ]
 
--- each line that is found starts at `low` or later, where the open one does and the others can only do so
+-- each line that is found starts at `low` or later if the open one does, and if the byte after the first is not before `low`
 pub starts_from : (low : ℕ) (open_line : Mark) (at : ℕ) (xs : List ℕ) → low ≤ open_line.start → low ≤ at + 1 → All (λ mark. low ≤ mark.start) (marks_from open_line at xs)
 starts_from low open_line at [] h l = All-cons (λ (mark : Mark). low ≤ mark.start) open_line [] h (All-nil (λ (mark : Mark). low ≤ mark.start))
 starts_from low open_line at (b ∷ xs) h l =
@@ -94,7 +94,7 @@ ascii-more : (before : List ℕ) (open_line : Mark) (b : ℕ) → open_line.star
 ascii-more before open_line b h a =
     rw (drop-append-le open_line.start before (b ∷ []) h, list_all-append (λ x. ltb x 128) (drop open_line.start before) (b ∷ []), ← a) (sym (rw (and-true (ltb b 128)) refl))
 
--- it is ASCII where its bytes so far are: `before` are the bytes before these
+-- that line is marked as ASCII exactly if its bytes so far are ASCII: `before` are the bytes before these
 pub open_after-ascii : (before : List ℕ) (open_line : Mark) (at : ℕ) (xs : List ℕ) (lf : Bool) → at ≡ length before → open_line.start ≤ at →
     open_line.ascii ≡ all_ascii (drop open_line.start before) →
     (open_after open_line at xs lf).ascii ≡ all_ascii (drop (open_after open_line at xs lf).start (before ++ xs))

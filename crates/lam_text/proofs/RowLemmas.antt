@@ -320,7 +320,7 @@ pub Row-start_boundary : (text : List ℕ) (start : ℕ) (bytes : List ℕ) → 
 Row-start_boundary text start bytes row =
     IsCharBoundary-from_drop text start (omega (arith, row.sizes)) (rw row.splits (IsUtf8-append bytes row.after row.utf8_content row.utf8_after))
 
--- behind the first `n` bytes of the row's content, where what is behind them there is text
+-- the text may be cut behind the first `n` bytes of a row's content, if the rest of the content is text
 pub Row-boundary : (text : List ℕ) (start : ℕ) (bytes : List ℕ) (n : ℕ) → Row text start bytes → n ≤ length bytes → IsUtf8 (drop n bytes) → IsCharBoundary text (start + n)
 Row-boundary text start bytes n row h behind =
     let cut : drop (start + n) text ≡ drop n bytes ++ row.after =
@@ -352,7 +352,7 @@ Row-inner_boundary text start bytes offset row h boundary = elim (cases_lt (offs
       rw least (IsCharBoundary-end bytes)
 ]
 
--- what a position means is a place where the text may be cut
+-- the offset of a position is a place where the text may be cut
 pub offset_of-boundary : (encoding : Encoding) (text : List ℕ) (position : Position) → IsUtf8 text → IsCharBoundary text (offset_of encoding text position)
 offset_of-boundary encoding text position utf8 = elim (cases_lt position.line (length (index_of text))) [
   | inl some_line ↦

@@ -118,7 +118,7 @@ is_plain-not b h = go (is_byte2 13 10 b) h where
 pub IsPlain-before : (hay : List ℕ) (k : ℕ) → NoneBefore (Passes (is_byte2 13 10) hay) 0 (length hay) k → IsPlain (take k hay)
 IsPlain-before hay k first = IsPlain-take k hay (λ j l m. is_plain-not (get_or hay j 0) (first.before j (omega arith) l))
 
--- where there is none, all are
+-- without a CR or an LF, all bytes are plain
 pub IsPlain-nowhere : (hay : List ℕ) → Nowhere (Passes (is_byte2 13 10) hay) 0 (length hay) → IsPlain hay
 IsPlain-nowhere hay none =
     let all = IsPlain-take (length hay) hay (λ j l m. is_plain-not (get_or hay j 0) (none j (omega arith) l)) in

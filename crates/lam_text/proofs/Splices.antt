@@ -141,7 +141,7 @@ first_start-bounds_on at bytes (Cut (Ended front ending ∷ lines) last) cut =
     let long : length bytes ≡ length line + length cut.0 = ap length split ∙ length-append line cut.0 in
     rw (first_start-marks_in (at + length line) lines last (at + length bytes)) (omega arith, omega arith)
 
--- that byte is not before `at`, and within the text
+-- the first line that starts after `at`, or else the end of the text, is not before `at` and within the text
 pub first_start-bounds : (text : List ℕ) (at : ℕ) → at ≤ length text →
     (at ≤ first_start (later_on at (lines_of (drop at text))) (length text)) × (first_start (later_on at (lines_of (drop at text))) (length text) ≤ length text)
 first_start-bounds text at h =
@@ -155,7 +155,7 @@ begins_with_lf-drop xs ys n h l e =
     let same : get_or xs n 0 ≡ get_or ys n 0 = sym (get_or-take (suc n) xs n 0 (omega arith)) ∙ (ap (λ zs. get_or zs n 0) e ∙ get_or-take (suc n) ys n 0 (omega arith)) in
     rw (drop_more xs n 0 h, drop_more ys n 0 l, same) refl
 
--- what ends or is open before the byte before a splice stays
+-- the lines that end before the byte before a splice stay, and so does the line that is open there
 pub kept_before : (old new : List ℕ) (start end inserted : ℕ) → IsSplice old new start end inserted →
     (ended_by new (start - 1) ≡ ended_by old (start - 1)) × (open_at new (start - 1) ≡ open_at old (start - 1))
 kept_before old new zero end inserted splice = (refl, refl)

@@ -1,4 +1,4 @@
--- Parsing of types from their plain text. For private functions alone.
+-- Parsing of types from their plain text. For private functions only.
 use Rattle.std.specs.Prelude.{◌≡◌, ◌≢◌, ◌++◌, ◌+◌, ℕ, Option, Some, None, codes}
 use Rattle.std.specs.Borrow.{Bor}
 use Rattle.lam_rules.specs.Texts.{Text}

@@ -1,4 +1,4 @@
--- Reading of JSON values. For private functions alone.
+-- Reading of JSON values. For private functions only.
 use Rattle.std.specs.Prelude.{◌≢◌, ℕ, Result, Ok, Err}
 use Rattle.serde_json.specs.Data.{Data, number, unsigned}
 use Rattle.lam_check.specs.declared.read_derivations.Unread.{Unread}

@@ -1,4 +1,4 @@
--- Spans in roles. For private functions alone.
+-- Spans in roles. For private functions only.
 use Rattle.std.specs.Prelude.{ℕ, List}
 use Rattle.lam_query.specs.Within.{IsSpanOfText}
 use Rattle.lam_check.specs.declared.terms.Role.{Role}

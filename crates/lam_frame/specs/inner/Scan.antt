@@ -1,4 +1,4 @@
--- Scanning of a header part. For private functions alone.
+-- Scanning of a header part. For private functions only.
 use Rattle.std.specs.Prelude.{◌≡◌, ℕ, List, ◌∷◌, ◌++◌, length, take, drop, if◌then◌else◌, Result, Err}
 use Rattle.std.specs.List.{prefix_len, after_first}
 use Rattle.lam_frame.specs.Header.{AreLines, IsSpoiled, IsUnfinished, IsMisplaced, IsBegunEnd, is_header_byte, header_text, body_length, has_colon, names_length, is_colon, trim, length_in}

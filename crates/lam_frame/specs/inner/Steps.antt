@@ -1,4 +1,4 @@
--- The steps of a reading call. For private functions alone.
+-- The steps of a reading call. For private functions only.
 use Rattle.std.specs.Prelude.{◌≡◌, ◌≢◌, ℕ, ◌+◌, ◌^◌, ◌<◌, ◌≤◌, List, [], ◌∷◌, ◌++◌, length, drop, Option, Some, None, Result, Ok, Err}
 use Rattle.std.specs.List.{AllByRecursion}
 use Rattle.lam_frame.specs.Device.{Gave, FailedPull, SourceView}

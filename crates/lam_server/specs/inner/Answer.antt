@@ -1,4 +1,4 @@
--- The effect of answering one body on the session and the sink. For private functions alone.
+-- The effect of answering one body on the session and the sink. For private functions only.
 use Rattle.std.specs.Prelude.{◌≡◌, ℕ, List, Result, Ok, Err}
 use Rattle.serde_json.specs.Data.{Data}
 use Rattle.lam_rpc.specs.Kind.{Message, IsKindOf}

@@ -1,4 +1,4 @@
--- The contents of a `didChange` notification. For private contracts alone.
+-- The contents of a `didChange` notification. For private contracts only.
 use Rattle.std.specs.Prelude.{◌≡◌, [], Option, Some, None, IsSome, string_bytes}
 use Rattle.serde_json.specs.Data.{Data}
 use Rattle.lam_rpc.specs.Fields.{named_uri, listed_changes}

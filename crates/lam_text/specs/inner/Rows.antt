@@ -1,4 +1,4 @@
--- The lines of a text by number. For private contracts alone.
+-- The lines of a text by number. For private contracts only.
 use Rattle.std.specs.Prelude.{ℕ, zero, suc, ◌+◌, List, [], ◌∷◌, length}
 use Rattle.lam_text.specs.Lines.{Line, Lines, Cut, content, line_bytes, lines_of}
 

@@ -1,4 +1,4 @@
--- The state of the search for line endings. For private contracts alone.
+-- The state of the search for line endings. For private contracts only.
 use Rattle.std.specs.Prelude.{◌≡◌, ℕ, ◌+◌, Bool, true, not, ◌&&◌, ◌||◌, ◌==◌, nat_lt, nat_le, List, [], ◌∷◌, take, drop, if◌then◌else◌}
 use Rattle.lam_text.specs.declared.index.Mark.{Mark}
 use Rattle.lam_text.specs.Lines.{begins_with_lf}

@@ -1,4 +1,4 @@
--- The effect of a splice on a text and its index. For private contracts alone.
+-- The effect of a splice on a text and its index. For private contracts only.
 use Rattle.std.specs.Prelude.{◌≡◌, ℕ, ◌+◌, ◌-◌, ◌≤◌, Bool, ◌&&◌, List, [], ◌∷◌, length, take, drop}
 use Rattle.std.specs.List.{prefix_len}
 use Rattle.lam_text.specs.declared.index.Mark.{Mark}

@@ -9,7 +9,7 @@ use Rattle.lam_check.proofs.PlainTypes.{AreFieldsLeft}
 use Rattle.lam_check.specs.Readable.{depth_in}
 use Rattle.lam_check.proofs.plain_types.+types.Given as goal
 
--- A type asks for less than what it stands in, at each level.
+-- The measures of the functions: the levels that are left, and within a level the order of the calls.
 
 abbrev pub decreases-operand_at : goal.decreases-operand_at
 decreases-operand_at l = 4 * l.levels
