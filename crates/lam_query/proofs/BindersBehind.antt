@@ -422,22 +422,22 @@ module _ (text : List ℕ) (a : Analysis) (h : IsAnalysisOf text a) (i : ℕ) (e
 
     -- where no type is too large
     module _ (small : a.row_faults.large ≡ None) where
-      abbrev OldPieces : List Row
-      OldPieces = placed (Here.end + (bytes_of Ahead + 0)) (rows_of (drop (i + 1) Rows))
+      abbrev Behind : List Row
+      Behind = placed (Here.end + (bytes_of Ahead + 0)) (rows_of (drop (i + 1) Rows))
 
-      all_small : first_large (placed 0 Ahead ++ There ∷ OldPieces) ≡ None
+      all_small : first_large (placed 0 Ahead ++ There ∷ Behind) ≡ None
       all_small =
           ap first_large (sym (ap (placed 0) (around_row Rows i e lt) ∙ placed_append 0 Ahead (Here ∷ rows_of (drop (i + 1) Rows)))) ∙ sym h.large ∙ small
 
       no_written : large_written_type (found_in There) ≡ None
       no_written =
-          let rows = placed 0 Ahead ++ There ∷ OldPieces in
-          none_there large_written_type (placed 0 Ahead) There OldPieces (none_first (first_in large_written_type rows) (first_in large_term rows) all_small)
+          let rows = placed 0 Ahead ++ There ∷ Behind in
+          none_there large_written_type (placed 0 Ahead) There Behind (none_first (first_in large_written_type rows) (first_in large_term rows) all_small)
 
       no_term : large_term (found_in There) ≡ None
       no_term =
-          let rows = placed 0 Ahead ++ There ∷ OldPieces in
-          none_there large_term (placed 0 Ahead) There OldPieces (none_second (first_in large_written_type rows) (first_in large_term rows) all_small)
+          let rows = placed 0 Ahead ++ There ∷ Behind in
+          none_there large_term (placed 0 Ahead) There Behind (none_second (first_in large_written_type rows) (first_in large_term rows) all_small)
 
       context_there : (g : Context) → HasContext divided.0 g a.dialect
           → HasContext f (entry_onto (name_of_own here.own) (answer Types (bound_in Here.command)) g) a.dialect

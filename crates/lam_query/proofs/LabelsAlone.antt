@@ -122,17 +122,17 @@ module _ (text : List ℕ) (offset : ℕ) (a : Analysis) (p : PieceAt) (of : IsA
         known_through text here.around.before here.around.front (types_in a.types) a.dialect here.around.rows_before
         (none_large_ahead here.around.before (here.around.row ∷ here.around.after) (sym (ap first_large here.around.are) ∙ sym of.large ∙ none_large))
 
-    abbrev OldPieces : Context
-    OldPieces = known.context
+    abbrev Before : Context
+    Before = known.context
 
-    sees : SeesAs c here.sight.names here.sight.types Done OldPieces
+    sees : SeesAs c here.sight.names here.sight.types Done Before
     sees = record { names = λ x free. sym (here.names x) ∙ known.names x; types = λ x free. sym (here.types x) ∙ known.types x }
 
     abbrev Entries : Context
     Entries = entries_onto [] (entered here.sight.names (each_once (free_in_command c)))
 
-    alike : IsSeenAlike Done (stand_ins here.sight c) OldPieces Entries c a.dialect
-    alike = stand_ins_seen here.sight c Done OldPieces (answers (types_in a.types) (all_types here.around.before)) known.blames a.dialect known.checked sees
+    alike : IsSeenAlike Done (stand_ins here.sight c) Before Entries c a.dialect
+    alike = stand_ins_seen here.sight c Done Before (answers (types_in a.types) (all_types here.around.before)) known.blames a.dialect known.checked sees
 
     pub small_behind : (dot n : ℕ) (items : List Item) → projection_at dot Alone ≡ Some n → AreListed Alone n items a.dialect → IsListedBehind here dot c items
     small_behind dot n items there listed =
@@ -154,7 +154,7 @@ module _ (text : List ℕ) (offset : ℕ) (a : Analysis) (p : PieceAt) (of : IsA
               ap (λ bs. first_too_large bs behind) (after_none (abbreviations_behind Done) c (term_none c n lt))
               ∙ behind_own (abbreviations_behind Done) here.around.own behind (recursion_from_All (λ o. type_name_bound o ≡ None) here.around.own none) later in
               small is_small
-              (listed_there Done pre OldPieces Entries c behind (answers (types_in a.types) (all_types here.around.before)) known.blames d known.checked alike n items lt
-              (projection_there Done pre OldPieces Entries c behind (answers (types_in a.types) (all_types here.around.before)) known.blames d known.checked alike n label.0 lt label.1)
+              (listed_there Done pre Before Entries c behind (answers (types_in a.types) (all_types here.around.before)) known.blames d known.checked alike n items lt
+              (projection_there Done pre Before Entries c behind (answers (types_in a.types) (all_types here.around.before)) known.blames d known.checked alike n label.0 lt label.1)
               others listed);
         }

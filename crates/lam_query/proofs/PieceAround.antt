@@ -114,20 +114,20 @@ module _ (text : List ℕ) (a : Analysis) (o : ℕ) (p : PlacedRow) (around : Is
 
   -- it is this one
   module _ (r e : RustRow) (is : r ≡ get_or a.rows.items p.number e) where
-    abbrev OldPieces : List Row
-    OldPieces = rows_of (drop (p.number + 1) a.rows.items)
+    abbrev Behind : List Row
+    Behind = rows_of (drop (p.number + 1) a.rows.items)
 
     abbrev There : Row
     There = row_after p.start (row_of r)
 
-    parts : rows_in a ≡ placed 0 Ahead ++ placed (bytes_of Ahead + 0) (row_of (get_or a.rows.items p.number e) ∷ OldPieces)
+    parts : rows_in a ≡ placed 0 Ahead ++ placed (bytes_of Ahead + 0) (row_of (get_or a.rows.items p.number e) ∷ Behind)
     parts =
-        ap (placed 0) (around_row a.rows.items p.number e number_inside) ∙ placed_append 0 Ahead (row_of (get_or a.rows.items p.number e) ∷ OldPieces)
+        ap (placed 0) (around_row a.rows.items p.number e number_inside) ∙ placed_append 0 Ahead (row_of (get_or a.rows.items p.number e) ∷ Behind)
 
     pub same_ahead : around.before ≡ placed 0 Ahead
     same_ahead =
         sym (take_at around.before (around.row ∷ around.after) p.number (sym around.counted)) ∙ ap (take p.number) (sym around.are ∙ parts)
-        ∙ take_at (placed 0 Ahead) (placed (bytes_of Ahead + 0) (row_of (get_or a.rows.items p.number e) ∷ OldPieces)) p.number as_many_ahead
+        ∙ take_at (placed 0 Ahead) (placed (bytes_of Ahead + 0) (row_of (get_or a.rows.items p.number e) ∷ Behind)) p.number as_many_ahead
 
     pub bytes_ahead : bytes_of Ahead + 0 ≡ p.start
     bytes_ahead =
@@ -141,7 +141,7 @@ module _ (text : List ℕ) (a : Analysis) (o : ℕ) (p : PlacedRow) (around : Is
         sym (get_or_at around.before around.row around.after around.row p.number (sym around.counted))
         ∙ ap (λ rs. get_or rs p.number around.row) (sym around.are ∙ parts)
         ∙ get_or_at (placed 0 Ahead) (row_after (bytes_of Ahead + 0) (row_of (get_or a.rows.items p.number e)))
-        (placed ((get_or a.rows.items p.number e).end + (bytes_of Ahead + 0)) OldPieces) around.row p.number as_many_ahead
+        (placed ((get_or a.rows.items p.number e).end + (bytes_of Ahead + 0)) Behind) around.row p.number as_many_ahead
         ∙ (λ j. row_after (bytes_ahead j) (row_of (sym is j)))
 
     pub ends_there : around.row.end ≡ p.start + r.end
@@ -261,7 +261,7 @@ module _ (text : List ℕ) (a : Analysis) (o : ℕ) (p : PlacedRow) (around : Is
               placed_ends text nothing (rows_of a.rows.items) all.front Numbers a.dialect all.rows,
               all.whole,
               ap bytes_of (around_row a.rows.items p.number e number_inside),
-              bytes_append Ahead (row_of (get_or a.rows.items p.number e) ∷ OldPieces),
+              bytes_append Ahead (row_of (get_or a.rows.items p.number e) ∷ Behind),
               ap (λ rs. bytes_of (rows_of rs)) (drop_all (p.number + 1) a.rows.items (omega (arith, number_last, as_many_pieces))),
             )
 
