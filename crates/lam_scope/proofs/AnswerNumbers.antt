@@ -31,7 +31,7 @@ module _ (bs : List TextBinder) where
   types_within : (types : List Entry) (u : TypeTree) → AreWithin (type_uses types u)
   types_within types u = none_within (type_uses types u).binders (type_binders types u)
 
-  -- one that is its own answer, and one whose answer stands behind it
+  -- a binder that is its own answer, and then one whose answer comes after it
   own_within : (n : ℕ) (x : Option Name) (s : Span) (names : List Entry) (o : Origin) → BindersStand bs n (binder_row x s names n o).binders → AreWithin (binder_row x s names n o)
   own_within n x s names o stand = (stand.0, tt)
 
@@ -153,7 +153,7 @@ module _ (bs : List TextBinder) where
       let count = term_binders types names n k t in
       both_within one rest (term_within types names n k t (rows_left bs n one rest stand)) (commands_within types names after (k + (below t + 1)) (i + 1) cs (rows_right bs n after one rest (omega arith) stand))
 
--- the row of a number
+-- the row with an index
 
 row_within : (m : ℕ) (rows : List TextBinder) (n : ℕ) → n < length rows → AllByRecursion (λ r. r.answer < m) rows → (binder_in rows n).answer < m
 row_within m [] n lt h = absurd (omega arith)

@@ -1,4 +1,4 @@
--- Rows beside what they stand for, one by one; where the binders of a part of a document stand among those of all; what is read off the binders that are seen.
+-- Rows and what they stand for, one by one; where the binders of a part of a document are among all; and what is read off the binders in scope.
 use Rattle.std.proofs.Common.{◌≡◌, ℕ, ◌+◌, ◌<◌, ◌≤◌, List, [], ◌∷◌, ◌++◌, length, length-append, zero, suc, refl, ap, sym, ◌∙◌, subst, arith, map, get_or, Option, true, false}
 use Rattle.std.proofs.lemmas.List.{append-nil, get_or_default}
 use Rattle.lam_syntax.specs.Trees as tree
@@ -9,7 +9,7 @@ use Rattle.lam_scope.specs.Names.{Name}
 use Rattle.lam_scope.specs.Sights.{lambda_at, term_at}
 use Rattle.lam_scope.specs.Tables.{TextBinder, TextPlace, Table, ◌⊕◌, Entry, entry, innermost, binder_row, place_row, root, behind, roots, binders_in, binders_in_node, binders_in_fields, type_uses, node_uses, field_uses, term_table, node_table, fields_table, letrec_rows, binder_in, seen_in}
 
--- the elements of two lists, each beside the other's of its number
+-- the elements of two lists, paired by their indices
 
 abbrev pub Along : {A B : Type 0} → (A → B → Type 0) → List A → List B → Type 0
 Along R [] [] = Unit {0}
@@ -30,7 +30,7 @@ along_back : {A B : Type 0} (R : A → B → Type 0) (xs vs : List A) (ys : List
 along_back R [] vs ys e h = h
 along_back R (x ∷ xs) vs ys e h = absurd (omega arith)
 
--- the places of two tables, one behind the other, and of two of which one has none
+-- the places of two tables, one after the other; or of one table, if the other has none
 
 pub both : {B : Type 0} (R : TextPlace → B → Type 0) (s t : Table) (ys zs : List B) → Along R s.places ys → Along R t.places zs → Along R (s ⊕ t).places (ys ++ zs)
 unfolding ◌⊕◌
@@ -44,7 +44,7 @@ pub back_alone : {B : Type 0} (R : TextPlace → B → Type 0) (s t : Table) (ys
 unfolding ◌⊕◌
 back_alone R s t ys e h = along_back R s.places t.places ys e h
 
--- how many binders stand in the text
+-- how many binders the tables of the parts of a text have
 
 pub plus : (s t : Table) (a b : ℕ) → length s.binders ≡ a → length t.binders ≡ b → length (s ⊕ t).binders ≡ a + b
 unfolding ◌⊕◌
@@ -128,7 +128,7 @@ mutual
       plus (term_table types names n k t) (fields_table types names (n + binders_in t) (behind k t) fs) (binders_in t) (binders_in_fields fs)
       (term_binders types names n k t) (fields_binders types names (n + binders_in t) (behind k t) fs)
 
--- elements that stand at their numbers, from the n-th on
+-- elements at their indices, from n on
 
 abbrev pub StandAt : {A : Type 0} → (ℕ → A) → (size n : ℕ) → List A → Type 0
 StandAt at size n [] = Unit {0}
@@ -155,7 +155,7 @@ stand_all d (x ∷ xs) =
     let first : suc 0 ≡ 0 + 1 = omega arith in
     (omega arith, refl, subst (λ m. StandAt (λ k. get_or (x ∷ xs) k d) (suc (length xs)) m xs) first (stand_shift d x xs 0 xs (stand_all d xs)))
 
--- binders, by the numbers that a table gives them
+-- binders at their indices in a table
 
 abbrev pub BindersStand : List TextBinder → ℕ → List TextBinder → Type 0
 BindersStand bs = StandAt (binder_in bs) (length bs)
@@ -175,7 +175,7 @@ pub rows_right : (bs : List TextBinder) (n m : ℕ) (s t : Table) → n + length
 unfolding ◌⊕◌
 rows_right bs n m s t e h = stand_right (binder_in bs) (length bs) n m s.binders t.binders e h
 
--- binders that are seen: each stands just inside of the next, and what is read off it is told
+-- binders in scope: each is just inside of the next, and what is read off each is given
 
 abbrev pub AreUnder : List Entry → ℕ → Type 0
 AreUnder [] n = Unit {0}
@@ -217,7 +217,7 @@ all_under f bs (e ∷ es) [] seen = absurd seen
 pub read_seen : {A : Type 0} (f : TextBinder → A) (bs : List TextBinder) (es : List Entry) (xs : List A) → AreSeen f bs es xs → read_from f bs (length bs) (innermost es) ≡ xs
 read_seen f bs es xs seen = read_under f bs (length bs) es xs (all_under f bs es xs seen) seen
 
--- the rows of a letrec but for its body: its two binders and those of its first term stand at their numbers
+-- the rows of a letrec except for its body: its two binders and those of its first term are at their indices
 
 pub letrec_first : (bs : List TextBinder) (x : Option Name) (r span : Span) (names : List Entry) (n p : ℕ) (u t : Table) → length u.binders ≡ 0
     → BindersStand bs n (letrec_rows x r names n p span u t).binders

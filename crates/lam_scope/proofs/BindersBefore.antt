@@ -24,7 +24,7 @@ ascend_orders : (low high : ℕ) (ms : List Mention) → Ascend low ms high → 
 ascend_orders low high [] h = h
 ascend_orders low high (m ∷ ms) h = omega (arith, h.0, h.1, ascend_orders (token_of m).end high ms h.2)
 
--- where these mentions ascend from this byte, their uses stand behind their binders
+-- if these mentions ascend from this byte, the uses among them come after their binders
 abbrev AreBehind : (low : ℕ) → List Mention → Type 0
 AreBehind low ms = (high : ℕ) → Ascend low ms high → AllByRecursion IsBehindBinder ms
 
@@ -63,7 +63,7 @@ ends_here : (high : ℕ) (here : Bool) (s : Span) (b : Option Span) → s.end �
 ends_here high true s b le h = le
 ends_here high false s b le h = h
 
--- a binder that is mentioned, and the mentions between it and what sees it
+-- one more binder in scope, which is mentioned before these mentions
 one_more : (low high : ℕ) (k : Kind) (x : Name) (s : Span) (ms : List Mention) (bs : List Binder) → Ascend low (binds_at k s ∷ ms) high → AllEnd low bs → AllEnd high (binder (Some x) s ∷ bs)
 one_more low high k x s ms bs ascend h y =
     ends_here high (binds (Some x) y) s (token_bound_to y bs) (ascend_orders s.end high ms ascend.2)
@@ -76,7 +76,7 @@ BothEnd high types names = AllEnd high types × AllEnd high names
 both_later : (high next : ℕ) (types names : List Binder) → high ≤ next → BothEnd high types names → BothEnd next types names
 both_later high next types names le h = (all_later high next types le h.0, all_later high next names le h.1)
 
--- what is seen inside a binder of a term, where these mentions are between
+-- what is in scope inside a binder of a term, after these mentions
 seen_inside : (low high : ℕ) (types names : List Binder) (b : Bound) (ms : List Mention) → low ≤ high → Ascend low (mention_of b ++ ms) high → BothEnd low types names → BothEnd high types (seen_of b ∷ names)
 seen_inside low high types names (bound None s) ms le ascend h = both_later low high types names le h
 seen_inside low high types names (bound (Some x) s) ms le ascend h = (all_later low high types le h.0, one_more low high kind.Name x s ms names ascend h.1)
@@ -197,7 +197,7 @@ from_lower : (low next : ℕ) (ss : List Span) → low ≤ next → AscendFrom n
 from_lower low next [] le h = tt
 from_lower low next (s ∷ ss) le h = (omega (arith, h.0), h.1, h.2)
 
--- a span before others, if it is told
+-- a span before others if there is one, or just the others
 one_before : (low : ℕ) (here : Bool) (s : Span) (ss : List Span) → (here ≡ true → low ≤ s.start) → s.start < s.end → AscendFrom s.end ss → AscendFrom low ss
     → AscendFrom low (cons_option (if here then Some s else None) ss)
 one_before low true s ss first some inside rest = (first refl, some, inside)

@@ -1,4 +1,4 @@
--- What a table tells of the name at a byte, and of the uses and the kind of a binder, as the mentions of the text tell it, where these stand one behind the other.
+-- What a table tells of the name at a byte, and of the uses and the kind of a binder, is what the mentions of the text tell, if these come one after another.
 use Rattle.std.proofs.Common.{◌≡◌, ◌≢◌, ℕ, ◌+◌, ◌<◌, ◌≤◌, ◌==◌, ◌⊎◌, inl, inr, List, [], ◌∷◌, length, refl, ap, sym, ◌∙◌, subst, arith, map, Option, Some, None, Bool, true, false}
 use Rattle.std.specs.Prelude.{if◌then◌else◌, filter, ◌&&◌}
 use Rattle.std.specs.List.{AllByRecursion, cons_option}
@@ -111,7 +111,7 @@ own_answer cs o n is =
     let own = own_number n (answer_for cs n) (has_name (binder_numbered (table cs) n).name) answer.1 in
     (record { inside = answer.0; named = own.0 }, own.1)
 
--- no two answers have one token
+-- no two answers have the same token
 
 ascend_rest : (b : Bool) (low high : ℕ) (m : Mention) (ms : List Mention) → Ascend low (if b then m ∷ ms else ms) high → Ascend low ms high
 ascend_rest true low high m ms h =
@@ -124,7 +124,7 @@ ascend_first : (b : Bool) (low high : ℕ) (m : Mention) (ms : List Mention) →
 ascend_first true low high m ms e h = h
 ascend_first false low high m ms e h = absurd cc
 
--- the rows that are left, the first of them having the number n
+-- the rows that are left, of which the first has index n
 abbrev AreLast : List TextBinder → ℕ → List TextBinder → Type 0
 AreLast bs n rows = BindersStand bs n rows × (n + length rows ≡ length bs)
 
@@ -210,7 +210,7 @@ same_binder bs n (Some m) (Some s) alone h = by (cases_eq m n)
 same_binder bs n None (Some s) alone h = absurd h
 same_binder bs n (Some m) None alone h = absurd h
 
--- the token of a use is told for this binder just where it is of it
+-- the token of a use is listed for this binder exactly if the use is bound to it
 pub use_is : (b : Span) (k : Kind) (t : Span) (c : Option Span) → use_bound_to b (uses_at k t c) ≡ (if is_at b c then Some t else None)
 use_is b k t None = refl
 use_is b k t (Some c) = refl
@@ -287,7 +287,7 @@ kinds_told cs high o n ascend is =
     all_parts (IsOfKind bs n) ms (λ s none. absurd cc) (subst (AllByRecursion (IsOfKind bs n)) told.answers (bindings_of_kind bs n 0 bs alone (all_stand bs)))
     (uses_of_kind bs n (table cs).uses (uses_in ms) alone told.uses)
 
--- what some name is bound to is among the mentions: what holds of each of them holds of it
+-- what some name is bound to is mentioned, so what holds of all mentions holds of that one
 
 all_bindings : (P : Mention → Type 0) (ms : List Mention) → AllByRecursion P ms → AllByRecursion P (bindings_in ms)
 all_bindings P [] h = tt

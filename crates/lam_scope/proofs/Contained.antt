@@ -17,7 +17,7 @@ pub first_or_later : {A : Type 0} (y x : A) (xs : List A) → Contains (y ∷ xs
 first_or_later y x xs (zero, inside, here) = inl here
 first_or_later y x xs (suc k, inside, here) = inr (k, omega (arith, inside), here)
 
--- of each element another
+-- the list of what a function makes of each element
 
 pub mapped_in : {A B : Type 0} (f : A → B) (xs : List A) (x : A) → Contains xs x → Contains (map f xs) (f x)
 mapped_in f [] x h = absurd (nothing_in x h)
@@ -27,7 +27,7 @@ mapped_in f (y ∷ xs) x h =
     (λ (rest : Contains xs x). later_in (f y) (f x) (map f xs) (mapped_in f xs x rest))
     (first_or_later y x xs h)
 
--- of each element another, or none
+-- the list of what it makes of each element, if anything
 
 option_in : {B : Type 0} (o : Option B) (y : B) (ys : List B) → Contains ys y → Contains (cons_option o ys) y
 option_in None y ys h = h

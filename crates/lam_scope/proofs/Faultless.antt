@@ -29,7 +29,7 @@ HasExpansions e = EachWrittenInTerm HasExpansion e
 abbrev pub HaveExpansions : TermFields → Type 0
 HaveExpansions es = EachWrittenInTerms HasExpansion es
 
--- lists of nothing
+-- lists that together are empty
 
 pub none_left : {X : Type 0} (xs ys : List X) → xs ++ ys ≡ [] → xs ≡ []
 none_left [] ys e = refl
@@ -106,7 +106,7 @@ field_rest l (Some a) (Some fs) p = tt
 field_rest l (Some a) None p = absurd p
 field_rest l None o p = absurd p
 
--- labels: none of some fields stands among those before
+-- labels: none of these fields has a label of the earlier ones
 
 abbrev AreApart : (earlier : TypeFields) → TypeFields → Type 0
 AreApart earlier no_type_fields = Unit {0}

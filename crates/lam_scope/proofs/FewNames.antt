@@ -11,7 +11,7 @@ few_names-push stack b = stacked-push (option_map (λ x. x.now)) [] stack b
 
 pub ruleset entered = (few_names-push)
 
--- the index of a use, by what is found behind the first binders
+-- the index of a use, if it is found after the first n binders
 
 abbrev pub found_behind : ℕ → Option ℕ → Option ℕ
 found_behind n o = option_map (λ m. n + m) o

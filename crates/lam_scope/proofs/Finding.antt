@@ -1,4 +1,4 @@
--- How the place of a number is found.
+-- How the subterm with an index is found.
 use Rattle.std.proofs.Common.{◌≡◌, ◌≢◌, ℕ, ◌+◌, ◌-◌, ◌<◌, List, [], ◌∷◌, ◌++◌, length, drop, get_or, zero, suc, refl, ap, sym, ◌∙◌, arith, String}
 use Rattle.std.specs.declared.alloc.Global.{Global}
 use Rattle.lam_rules.specs.Terms.{Term}
@@ -24,7 +24,7 @@ pub seek-past : (t : Term) (n : ℕ) → n ≢ 0 → seek (t ∷ []) n ≡ behin
 seek-past t zero some = absurd (some refl)
 seek-past t (suc n) some = ap behind (omega arith)
 
--- one more field is gone through
+-- one more field is searched
 pub found_more : (fs : List (String Global × Core)) (i : ℕ) (f : String Global × Core) (s t all : Sought) → i < length fs → f ≡ get_or fs i f
     → t ≡ seek_on s (terms_at (term_of f.1)) → seek_on s (terms_at_fields (terms_of (drop i fs))) ≡ all
     → seek_on t (terms_at_fields (terms_of (drop (i + 1) fs))) ≡ all

@@ -52,7 +52,7 @@ pub faults_in-append : (bs : List Abbreviation) (us vs : List TypeTree) → faul
 faults_in-append bs [] vs = refl
 faults_in-append bs (u ∷ us) vs = ap (λ fs. type_faults bs u ++ fs) (faults_in-append bs us vs) ∙ sym (append_assoc (type_faults bs u) (faults_in bs us) (faults_in bs vs))
 
--- the first that is too large, where another is
+-- the first that is too large, or else another one
 or_else : (c : Bool) (s : Span) (o p : Option Span) → (if c then Some s else option_or o p) ≡ option_or (if c then Some s else o) p
 or_else true s o p = refl
 or_else false s o p = refl

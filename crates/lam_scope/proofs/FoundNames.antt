@@ -64,7 +64,7 @@ letters_of-push (z ∷ items) y = ap (λ xs. z.now ∷ xs) (letters_of-push item
 
 -- each once
 
--- those of some names that are none of the first ones
+-- those of these names that are not among the ones found before
 abbrev others : List Name → List Name → List Name
 others found [] = []
 others found (x ∷ xs) = if is_among x found then others found xs else x ∷ others found xs

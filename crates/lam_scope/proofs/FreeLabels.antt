@@ -1,4 +1,4 @@
--- Another label in the place of one that a projection asks for: no other word of the commands changes, so nor does any term in front of that projection.
+-- A projection that asks for another label: no other word of the commands changes, and so no term before that projection does.
 use Rattle.std.proofs.Common.{◌≡◌, ℕ, zero, suc, ◌+◌, ◌<◌, ◌≤◌, ◌==◌, ◌⊎◌, inl, inr, arith, Bool, true, false, cond, not, nat_lt, List, [], ◌∷◌, ◌++◌, length, take, get_or, map, append_assoc, refl, ap, sym, ◌∙◌, subst, Option, Some, None, position}
 use Rattle.std.specs.Prelude.{if◌then◌else◌}
 use Rattle.std.specs.List.{position_or_len}
@@ -31,7 +31,7 @@ front_map g p (x ∷ xs) = ap (λ n. cond (not (p (g x))) (1 + n) 0) (front_map 
 position_map : {X Y : Type 0} (g : X → Y) (p : Y → Bool) (xs : List X) → position (λ x. p (g x)) xs ≡ position p (map g xs)
 position_map g p xs = λ i. cond (nat_lt (front_map g p xs i) (sym (length-map xs g) i)) (Some (front_map g p xs i)) None
 
--- terms have the same words of their own, one after the other
+-- the terms of two lists have the same own words, one by one
 record SameOwn (ts us : List PlacedTree) : Type 0 where
   owns : map (λ t. (term_of t).own) ts ≡ map (λ t. (term_of t).own) us
 
@@ -48,7 +48,7 @@ both_own {ts} {us} {vs} {ws} g h = record { owns = map-append (λ t. (term_of t)
 last_own : {ts us : List PlacedTree} (p q : PlacedTree) → SameOwn ts us → (term_of p).own ≡ (term_of q).own → SameOwn (ts ++ p ∷ []) (us ++ q ∷ [])
 last_own p q g e = both_own g (record { owns = ap (λ w. w ∷ []) e })
 
--- Trees with other letters have their own words at the same tokens, whatever they see.
+-- Trees with other letters have their own words at the same tokens, whatever is in scope.
 module _ (letters : Letters) where
   -- the name that a binder binds with these letters
   abbrev bound_name : Option Name → Span → Option Name
@@ -225,7 +225,7 @@ module _ (o : ℕ) where
   in_commands [] = 0
   in_commands (c ∷ cs) = in_command c + in_commands cs
 
-  -- these are of the mentions, whatever the trees see
+  -- as many of their mentions begin there, whatever is in scope
 
   bound_mentions : (b : Bound) → at_each (mention_of b) ≡ in_bound b
   bound_mentions (bound None s) = refl
@@ -305,10 +305,10 @@ module _ (o : ℕ) where
       both_at (mentions_of_command types names c) (mentions_from (types_behind types c) (names_behind names c) cs) (in_command c) (in_commands cs) (command_mentions types names c)
       (commands_mentions (types_behind types c) (names_behind names c) cs)
 
--- ---- places of terms, and the same but that one projection asks for another label
+-- ---- lists of terms that differ in that one projection asks for another label
 
 module _ (o : ℕ) (l : Label) where
-  -- the term of this number is a projection whose label begins at byte o
+  -- the term with this index is a projection whose label begins at byte o
   abbrev IsAt : List PlacedTree → ℕ → Type 0
   IsAt [] n = ⊥
   IsAt (t ∷ ts) zero = is_projection_at o (term_of t).own ≡ true
@@ -324,7 +324,7 @@ module _ (o : ℕ) (l : Label) where
   at_either (t ∷ ts) us zero is = inl is
   at_either (t ∷ ts) us (suc n) is = elim (at_either ts us n is) [ inl there ↦ inl there | inr there ↦ inr (there.0, there.1, omega (arith, there.2)) ]
 
-  -- Terms are others, but that the one of this number, a projection of the term before it, asks for that label. Those in front are the same.
+  -- In the other list, the term with this index, a projection of the term before it, asks for that label. The terms before both are the same.
   record AskAnew (ts us : List PlacedTree) (n : ℕ) : Type 0 where
     front : List PlacedTree
     operand : PlacedTree
@@ -371,8 +371,8 @@ module _ (o : ℕ) (l : Label) where
     asked_now = r.asked_now;
   }
 
-  -- A tree with c mentions that begin at byte o has the terms ts, and with that label for them the terms us. Where there is no such mention these are the same.
-  -- The label of a projection there is one; where it is the only one, that projection alone asks anew. In both cases the rest holds too.
+  -- A tree with c mentions that begin at byte o has the terms ts, and with that label in their place the terms us. Without such a mention these are the same.
+  -- The label of a projection there is such a mention; if it is the only one, just that projection asks for another label. In both cases the rest holds too.
   record Piece (c : ℕ) (ts us : List PlacedTree) (Rest : Type 0) : Type 0 where
     still : c ≡ 0 → (ts ≡ us) × Rest
     anew : (n : ℕ) → IsAt ts n → (1 ≤ c) × (c ≤ 1 → AskAnew ts us n × Rest)
@@ -381,21 +381,21 @@ module _ (o : ℕ) (l : Label) where
   no_terms : {Rest : Type 0} (c : ℕ) → (c ≡ 0 → Rest) → Piece c [] [] Rest
   no_terms c rest = record { still = λ none. (refl, rest none); anew = λ n is. absurd is }
 
-  -- with more mentions
+  -- the same with k more mentions
   more : {c : ℕ} {ts us : List PlacedTree} {Rest : Type 0} (k : ℕ) → Piece c ts us Rest → Piece (k + c) ts us Rest
   more k p = record {
     still = λ none. p.still (omega arith);
     anew = λ n is. let r = p.anew n is in (omega (arith, r.0), λ le. r.1 (omega arith));
   }
 
-  -- what follows from that of the rest
+  -- the same with what follows from the rest
   so : {c : ℕ} {ts us : List PlacedTree} {A B : Type 0} → (A → B) → Piece c ts us A → Piece c ts us B
   so f p = record {
     still = λ none. let r = p.still none in (r.0, f r.1);
     anew = λ n is. let r = p.anew n is in (r.0, λ le. let own = r.1 le in (own.0, f own.1));
   }
 
-  -- a tree and another one behind it, of which the terms are those, as long as the first one stays
+  -- a tree and another one after it, whose terms are then `now`: those with the label, if the first tree has no such mention
   both : {c d : ℕ} {ts us vs ws : List PlacedTree} {A B : Type 0} (now : List PlacedTree) → Piece c ts us A → Piece d vs ws B → (c ≡ 0 → ws ≡ now) → Piece (c + d) (ts ++ vs) (us ++ now) (A × B)
   both {c} {d} {ts} {us} {vs} {ws} now p q same = record {
     still = λ none. let first = p.still (omega arith) in let last = q.still (omega arith) in ((λ i. first.0 i ++ (last.0 ∙ same (omega arith)) i), (first.1, last.1));
@@ -561,7 +561,7 @@ module _ (o : ℕ) (l : Label) where
       let there : at o q ≡ 1 = ap (λ b. if b then 1 else 0) is in (omega (arith, there), λ le. projection_anew bs xs s r t k q is le)
   own_anew bs xs s r n is = absurd cc
 
-  -- where one projection asks anew the written types stay
+  -- if one projection asks anew, the written types stay the same
   abbrev TermPiece : List Abbreviation → List (Option Name) → Scope → TermTree → Type 0
   TermPiece bs xs s t = Piece (in_term o t) (terms_in (placed_term bs xs s t)) (terms_in (placed_term bs xs s (now_term t))) (written_in (now_term t) ≡ written_in t)
 

@@ -1,4 +1,4 @@
--- The form by the uses that are left is the nameless one: the table of a term has a use in its place for each that the form comes to.
+-- The form by the uses that are left is the nameless one: the table of a term has a use for each one that the form comes to, in the same order.
 use Rattle.std.proofs.Common.{◌≡◌, ℕ, ◌+◌, List, [], ◌∷◌, ◌++◌, Some, true, false, ap, refl, sym, ◌∙◌, append_assoc}
 use Rattle.std.proofs.lemmas.List.{append-nil, drop_all}
 use Rattle.lam_rules.specs.Terms.{if_then_else, lambda, apply, ascribe, let_in, record_term, project, term_field, letrec_in}

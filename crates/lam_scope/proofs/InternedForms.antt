@@ -119,7 +119,7 @@ refused_third {T} {V} {W} names xs n us vs ws old mid low new before between beh
     let whole = types_then names (us ++ vs) ws old low new before behind after b (Err x) stand front three in
     refused names xs n old new before after x answer is (subst (λ ts. AreTypesInterned {T = W} names ts old new before after (Err x)) (sym all) whole)
 
--- the form of a term and the number of a written type, over a table before and one behind
+-- the form of a term and the number of a written type, between an earlier and a later table
 
 form_between : (names : List NumberedName) (xs ys : List (Option Name)) (n : TermNode) (old mid low new : List Typ) (before after : List TypeFault) (e : InternedTerm)
     → TypeIdsStand old names → Keeps old mid → ys ≡ xs → IsInterned names ys n mid low before after (Ok e) → Keeps low new
@@ -137,7 +137,7 @@ number_between names u old mid low new before after w stand earlier one later =
     let seen = (kept_names old mid names earlier stand).0 in
     (kept_one.0 ∙ one.number ∙ (λ i. expansion (seen i) u), kept_one.1)
 
--- the form of each kind of term of those of its parts
+-- the form of each kind of term, from the forms of its parts
 
 pub lambda_interned : (names : List NumberedName) (xs : List (Option Name)) (b : Option Name) (s r : Span) (u : TypeTree) (n : TermNode) (old mid new : List Typ) (before between after : List TypeFault)
     (w : Option TyNo) (e made : InternedTerm) → TypeIdsStand old names → IsWrittenInterned names u old mid before between (Ok w) → IsInterned names (b ∷ xs) n mid new between after (Ok e)

@@ -144,7 +144,7 @@ interned_term-Fix ts e = ap (term_over ts) (numbered_of-Fix e)
 
 -- where the numbers stand
 
--- lists of labelled terms
+-- lists of labeled terms
 
 pub numbered_terms-drop : (fs : List InternedField) (i : ℕ) (f : InternedField) → i < length fs → f ≡ get_or fs i f
     → numbered_terms (drop i fs) ≡ term_field f.label.now (numbered_of f.term) (numbered_terms (drop (i + 1) fs))

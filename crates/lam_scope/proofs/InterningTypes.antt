@@ -45,7 +45,7 @@ arrow_interned names s t a b old mid low new before between after p q (Ok w) sta
 arrow_interned names s t a b old mid low new before between after p q (Err x) stand one two keeps number stands =
     record { keeps = keeps_trans old low new (keeps_trans old mid low one.keeps two.keeps) keeps; number = tt; stands = tt; faults = tt }
 
--- labelled numbers
+-- labeled numbers
 
 pub kept_given : (old now : List Typ) (items : List (Bor (List ℕ) × TyNo)) → Keeps old now → AllStand old items → (fields_given now items ≡ fields_given old items) × AllStand now items
 kept_given old now [] k h = (refl, tt)
@@ -64,7 +64,7 @@ stand-push : (ts : List Typ) (items : List (Bor (List ℕ) × TyNo)) (label : Bo
 stand-push ts [] label n h s = (s, tt)
 stand-push ts (f ∷ items) label n h s = (h.0, stand-push ts items label n h.1 s)
 
--- the fields that labelled numbers come to, with one more before the others
+-- the fields that labeled numbers stand for, with one more before the others
 one_more : (ts : List Typ) (o : Option (List (Bor (List ℕ) × TyNo))) (label : Bor (List ℕ)) (c : Bool) (w : Option TyNo) (r : Option Fields)
     → both joined (given_over ts (both (with_given label) o (if c then None else w))) r
     ≡ both joined (given_over ts o) (if c then None else both (rules.field label.now) (written_over ts w) r)
@@ -135,7 +135,7 @@ pub numbered_all : (bs : List Abbreviation) (fs : List TyField) (i : ℕ) (o all
     → both joined o (expansion_of_fields bs (type_fields_of (drop i fs))) ≡ all → o ≡ all
 numbered_all bs fs i o all le so_far = sym (both_none o) ∙ (rw (drop_all i fs le) at so_far)
 
--- the labels of fields that stand for some are apart
+-- fields that stand for types have distinct labels
 
 these : (c : Bool) (o : Option Fields) (gs : Fields) → (if c then None else o) ≡ Some gs → (c ≡ false) × (o ≡ Some gs)
 these true o gs e = cc

@@ -1,4 +1,4 @@
--- How rows are gone through by their runs.
+-- How rows are searched, run by run.
 use Rattle.std.proofs.Common.{◌≡◌, ℕ, ◌+◌, ◌<◌, ◌≤◌, arith, Bool, true, false, cond, ltb, List, [], ◌∷◌, ◌++◌, length, take, drop, get_or, zero, suc, refl, ap, sym, ◌∙◌, subst, append_assoc, Option, Some, None, position, map}
 use Rattle.std.specs.Prelude.{if◌then◌else◌}
 use Rattle.std.specs.List.{position_from}
@@ -60,7 +60,7 @@ drop_run (s ∷ ss) (suc n) = drop_run ss n
 behind_run : (ss : List Interval) (n m : ℕ) → m ≡ n + length (take 64 (drop n ss)) → drop m ss ≡ drop 64 (drop n ss)
 behind_run ss n m e = ap (λ k. drop k ss) e ∙ sym (drop-drop (length (take 64 (drop n ss))) n ss) ∙ drop_run (drop n ss) 64
 
--- how many rows stand behind a run
+-- how many rows there are up to the end of a run
 pub run_within : {X : Type 0} (xs run : List X) (n m : ℕ) → n ≤ length xs → run ≡ take 64 (drop n xs) → m ≡ n + length run → m ≤ length xs
 run_within xs run n m le is last =
     let size = length-take 64 (drop n xs) in
@@ -154,7 +154,7 @@ hit_run o i k (s ∷ ss) ts some = by (λ n. hit_run o (i + 1) k ss ts n) (has o
 split_rest : (ss run : List Interval) (n : ℕ) → run ≡ take 64 (drop n ss) → drop n ss ≡ run ++ drop 64 (drop n ss)
 split_rest ss run n is = sym (take-append-drop 64 (drop n ss)) ∙ ap (λ rs. rs ++ drop 64 (drop n ss)) (sym is)
 
--- a run that has it, and one that has it not
+-- a run that contains it, and one that does not
 
 pub hit_runs : {X : Type 0} (f : X → Interval) (o n : ℕ) (xs run : List X) (found : Option ℕ) (k : ℕ) → run ≡ take 64 (drop n xs) → found ≡ position_from (has o) n (map f run) → found ≡ Some k
     → position (has o) (map f xs) ≡ position_from (has o) n (drop n (map f xs)) → found ≡ position (has o) (map f xs)

@@ -73,7 +73,7 @@ entered bs n a m x s names o own before shared stand sight = (
   sight,
 )
 
--- one that is its own answer
+-- a binder that is its own answer
 entered_own : (bs : List TextBinder) (n m : ℕ) (x : Option Name) (s : Span) (names : List Entry) (o : Origin) → n < m
     → BindersStand bs n (binder_row x s names n o).binders → AreInSight bs n names → AreInSight bs m (entry x n n ∷ names)
 entered_own bs n m x s names o before stand sight = entered bs n n m x s names o (omega arith) before (ap (λ b. b.name) stand.1) stand sight
@@ -84,7 +84,7 @@ module _ (b : ℕ) (new : Name) (bs : List TextBinder) where
   abbrev kept : TextUse → Bool
   kept = keeps b new bs (bearers b new bs)
 
-  -- the names in sight as they are then
+  -- the names in sight after the rename
   abbrev later : List Entry → List (Option Name)
   later es = entry_names (renamed_entries b new es)
 

@@ -1,4 +1,4 @@
--- How what stands under a name is found by the index of the name.
+-- What a name stands for is found by the index of the name.
 use Rattle.std.proofs.Common.{◌≡◌, ◌⊎◌, inl, inr, ℕ, ◌-◌, ◌<◌, arith, Bool, true, false, List, [], ◌∷◌, ◌++◌, length, get_or, suc, refl, ap, sym, ◌∙◌, Option, Some, None}
 use Rattle.std.specs.Prelude.{if◌then◌else◌, IsSome}
 use Rattle.std.proofs.lemmas.List.{append-nil, length-map}
@@ -98,7 +98,7 @@ index-within x (b ∷ bs) n e = by (λ m rest. index-within x bs m rest) (split 
     by behind (inl (is_first, first)) = omega (arith, first)
     by behind (inr (no_match, (m, rest, next))) = let inner = behind m rest in omega (arith, next, inner)
 
--- the same of stacks
+-- the same for stacks
 
 pub seen_within : (stack : List SeenBinder) (names : List (Option Name)) (x : Name) (n : ℕ) → names ≡ entry_names (entries_of stack) → index_of x names ≡ Some n → n < length stack
 seen_within stack names x n named found =

@@ -1,4 +1,4 @@
--- The rows of a table beside the mentions of what it is the table of: the binders and the uses of both, one by one.
+-- The rows of the table of some commands and the mentions in these commands: their binders and their uses match, one by one.
 use Rattle.std.proofs.Common.{◌≡◌, ℕ, ◌+◌, ◌<◌, ◌==◌, List, [], ◌∷◌, ◌++◌, length, refl, ap, sym, ◌∙◌, subst, arith, Option, Some, None, Bool, true, false}
 use Rattle.std.specs.Prelude.{if◌then◌else◌}
 use Rattle.std.specs.List.{cons_option, filter_map}
@@ -20,7 +20,7 @@ use Rattle.lam_scope.specs.Renames.{kind_bound}
 use Rattle.lam_scope.proofs.UseChains.{same_number, other_number}
 use Rattle.lam_scope.proofs.BinderRows.{Along, along_append, plus, type_binders, letrec_binders, term_binders, BindersStand, all_stand, rows_left, rows_right, letrec_first}
 
--- whether a row is itself the answer for the binder that it tells of, which has a name
+-- whether a row's binder has a name and is itself the answer for it
 abbrev pub is_answer : ℕ → TextBinder → Bool
 is_answer n b = if has_name b.name then b.answer == n else false
 
@@ -64,7 +64,7 @@ bindings_in ms = filter_map binding_in ms
 abbrev pub binding_of : TextBinder → Mention
 binding_of b = binds_at (kind_bound b.origin) b.token
 
--- those of the rows that are answers, where the first row has the number n
+-- those of the rows that are answers, if the first row has index n
 abbrev pub answer_bindings : ℕ → List TextBinder → List Mention
 answer_bindings n [] = []
 answer_bindings n (b ∷ rows) = if is_answer n b then binding_of b ∷ answer_bindings (n + 1) rows else answer_bindings (n + 1) rows

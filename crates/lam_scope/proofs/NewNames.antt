@@ -15,14 +15,14 @@ use Rattle.lam_scope.specs.inner.Bearers.{bears, told_of, bearer, bearers_behind
 use Rattle.lam_scope.proofs.Lookups.{unbound_by_index}
 use Rattle.lam_scope.proofs.UseChains.{same_number}
 
--- the binders in sight as they are then
+-- the binders in sight after the rename
 abbrev pub renamed_entry : (b : ℕ) → Name → Entry → Entry
 renamed_entry b new e = entry (renamed_binder b new e.answer e.name) e.number e.answer
 
 abbrev pub renamed_entries : (b : ℕ) → Name → List Entry → List Entry
 renamed_entries b new es = map (renamed_entry b new) es
 
--- a binder in sight is a row of the table, and has a smaller answer than n
+-- a binder in sight stands for a row of the table, and its answer is before n
 pub record StandsFor (bs : List TextBinder) (n : ℕ) (e : Entry) (outer : Option ℕ) : Type 0 where
   pub inside : e.number < length bs
   pub own : e.number ≤ e.answer

@@ -1,4 +1,4 @@
--- The row of each place tells of the term of its number.
+-- The row of each place describes the term with its index.
 use Rattle.std.proofs.Common.{◌≡◌, ℕ, zero, suc, ◌+◌, List, [], ◌∷◌, ◌++◌, length, append_assoc, refl, ap, sym, ◌∙◌, subst, arith, Option, Some, true, false}
 use Rattle.std.proofs.lemmas.List.{append-nil}
 use Rattle.lam_rules.specs.Terms.{Term, fix}
@@ -191,7 +191,7 @@ module _ (all : List PlacedTree) where
   roots_stand bs xs s k (tree.ascribe t u) h = ap one_part (root_stands bs xs s k t (first_stands k (placed_term bs xs s t) no_parts h))
   roots_stand bs xs s k (tree.record_term fs) h = fields_stand bs xs s k fs h
 
--- rows beside the terms that they tell of
+-- rows and the terms that they describe
 
 abbrev name : TextBinder → Option Name
 name b = b.name

@@ -31,7 +31,7 @@ name_or_not text (Some (Token kind.Name)) is = inl is
 name_or_not text (Some (Token kind.TypeName)) is = inr (inl is)
 name_or_not text shape is = inr (inr ((λ e. cc), (λ e. cc)))
 
--- of a kind of names, of the other one, or of none
+-- a text is of this kind of names, of the other one, or of neither
 this_other_none : (k : Kind) (text : Name) → IsNameKind k → IsOne k text ⊎ (IsOne (other_kind k) text ⊎ IsNoName text)
 this_other_none k text names = by k names (name_or_not text (shape_of (chars text)) refl)
   where

@@ -42,7 +42,7 @@ prefixed_sight k s prefix.Succ e = refl
 prefixed_sight k s prefix.Pred e = refl
 prefixed_sight k s prefix.IsZero e = refl
 
--- a table whose places see what a term's see, but for the term's own
+-- a table whose places see what the subterms of a term see, except for the term itself
 abbrev SeeInside : List TextBinder → ℕ → Sight → Table → Term → Type 0
 SeeInside bs k s t e = (ss : List Sight) × Along (SeesOrigins bs) t.places ss × (sights k s e ≡ ss ++ s ∷ [])
 

@@ -1,4 +1,4 @@
--- Tokens of which the names stand one behind the other spell names and labels that ascend, whatever binders they see; and where all tokens stand so, their names do.
+-- If the names among tokens come one after another, as they do if all tokens do, the names and labels that they spell ascend, whatever is in scope.
 use Rattle.std.proofs.Common.{◌≡◌, ℕ, ◌<◌, ◌≤◌, List, [], ◌∷◌, ◌++◌, refl, subst, arith}
 use Rattle.lam_token.specs.Lexeme.{Lexeme, lexeme}
 use Rattle.lam_token.specs.declared.kind.Kind.{Kind}

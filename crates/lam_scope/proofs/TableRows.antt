@@ -96,7 +96,7 @@ origin-set [] n b o lt is = absurd (omega arith)
 origin-set (c ∷ bs) zero b o lt is = ap (λ d. record (text_binder d) { origin = o } ∷ map text_binder bs) is
 origin-set (c ∷ bs) (suc n) b o lt is = ap (λ cs. text_binder c ∷ cs) (origin-set bs n b o (omega arith) is)
 
--- a binder behind a table is told its origin
+-- the origin of the binder that comes after a table is set
 origin_told : (r a : Table) (x : Option Name) (s : Span) (seen : List Entry) (answer : ℕ) (before o : Origin) (n : ℕ) → n ≡ length r.binders
     → with_origin n o ((r ⊕ binder_row x s seen answer before) ⊕ a) ≡ r ⊕ (binder_row x s seen answer o ⊕ a)
 unfolding ◌⊕◌

@@ -1,4 +1,4 @@
--- The new name at the tokens of a binder and of its uses is the new name of that binder, told by its number: no two mentions of a text stand at one token.
+-- To put the new name at the tokens of a binder and its uses is to rename that binder by its index, as no two mentions of a text have the same token.
 use Rattle.std.proofs.Common.{◌≡◌, ℕ, ◌+◌, ◌<◌, ◌≤◌, ◌==◌, List, [], ◌∷◌, ◌++◌, map, refl, ap, sym, ◌∙◌, subst, arith, Option, Some, None, Bool, true, false}
 use Rattle.std.specs.Prelude.{if◌then◌else◌, ◌&&◌, ◌||◌, is_some}
 use Rattle.std.specs.List.{AllByRecursion, filter_map, cons_option}
@@ -28,7 +28,7 @@ use Rattle.lam_scope.proofs.BoundMentions.{same_token, other_token, is_at, same_
 
 -- the tokens of mentions that ascend
 
--- what is told of a mention is its token, or nothing
+-- what is listed for a mention is its token, or nothing
 abbrev IsOwn : Option Span → Mention → Type 0
 IsOwn None m = Unit {0}
 IsOwn (Some s) m = s ≡ token_of m
@@ -38,7 +38,7 @@ passed : (s : Span) (m : Mention) (o : Option Span) (ss : List Span) → IsOwn o
 passed s m None ss own off = refl
 passed s m (Some t) ss own off = ap (λ b. b || among ss s) (ap (is_span s) own ∙ off)
 
--- a mention's own token is, just where it is told
+-- a mention's own token is among these exactly if it is listed for the mention
 reached : (m : Mention) (o : Option Span) (ss : List Span) → IsOwn o m → among ss (token_of m) ≡ false → among (cons_option o ss) (token_of m) ≡ is_some o
 reached m None ss own none = none
 reached m (Some t) ss own none = ap (λ b. b || among ss (token_of m)) (same_token (token_of m) t (sym own))
@@ -51,7 +51,7 @@ module _ (f : Mention → Option Span) (own : (m : Mention) → IsOwn (f m) m) w
       let some = ascend.1 in
       passed s m (f m) (filter_map f ms) (own m) (other_token s (token_of m) (λ e. absurd (omega arith))) ∙ none_behind (token_of m).end high s ms ascend.2 (omega arith)
 
-  -- each mention's token is among those told of all of them just where it is told of that mention
+  -- each mention's token is among those listed for all exactly if it is listed for that mention
   each_among : (all : List Span) (low high : ℕ) (ms : List Mention) → Ascend low ms high → ((s : Span) → low ≤ s.start → among all s ≡ among (filter_map f ms) s)
       → AllByRecursion (λ m. among all (token_of m) ≡ is_some (f m)) ms
   each_among all low high [] ascend same = tt
@@ -77,7 +77,7 @@ binders_apart s [] none = tt
 binders_apart s (binds_at k t ∷ ms) none = let both = or_parts (is_span s t) (among (filter_map token_bound ms) s) none in (both.0, binders_apart s ms both.1)
 binders_apart s (m ∷ ms) none = binders_apart s ms none
 
--- that of a binder that some name is bound to is among them
+-- the token of a binder that some name is bound to is among them
 bound_apart : (cs : List CommandTree) (o n : ℕ) (s : Span) → binder_at (table cs) o ≡ Some n → among (filter_map token_bound (mentions cs)) s ≡ false → is_span s (binder_numbered (table cs) n).token ≡ false
 bound_apart cs o n s is none =
     let bs = (table cs).binders in

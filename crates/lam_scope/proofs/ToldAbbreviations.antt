@@ -1,4 +1,4 @@
--- The binder that a type name is told to have is the abbreviation that it stands for.
+-- The binder that is reported for a type name is that of the abbreviation that it stands for.
 use Rattle.std.proofs.Common.{◌≡◌, ◌≢◌, ◌⊎◌, inl, inr, ⊎_elim, ℕ, ◌≤◌, List, [], ◌∷◌, ◌++◌, length, refl, ap, sym, ◌∙◌, subst, arith, map, Bool, true, false, Option, Some, None}
 use Rattle.std.specs.Prelude.{if◌then◌else◌, Contains, fold, flat_map}
 use Rattle.std.specs.List.{AllByRecursion, filter_map}
@@ -314,7 +314,7 @@ told_as_bound cs before x s high ascend used =
     (λ (missed : IsMissed [] [] before x). missed.binds_it ∙ sym (none_told bs (binder_at (table cs) s.start) (token_bound_to x types) told missed.is_told))
     (found_or_missed [] [] before x)
 
--- what a command states, it states with the abbreviations behind those before it
+-- a command states what it does under the abbreviations in scope after the commands before it
 
 stated_from : (bs : List Abbreviation) (xs : List (Option Name)) (before : List CommandTree) (c : CommandTree) (after : List CommandTree)
     → statement_numbered (statements bs xs (before ++ c ∷ after)) (length before) ≡ statement (fold abbreviations_after bs before) (fold names_after xs before) c

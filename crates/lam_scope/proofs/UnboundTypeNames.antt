@@ -1,4 +1,4 @@
--- A type name is at fault, as unbound, just where the table tells no binder of it.
+-- A type name gets a diagnostic, as unbound, exactly if the table has no binder for it.
 use Rattle.std.proofs.Common.{◌≡◌, ⊎_elim, ℕ, List, [], ◌∷◌, ◌++◌, refl, ap, sym, ◌∙◌, subst, Bool, true, false, Option, Some, None}
 use Rattle.std.specs.Prelude.{◌↔◌, if◌then◌else◌, Contains, fold, flat_map}
 use Rattle.std.specs.List.{cons_option, filter_map}

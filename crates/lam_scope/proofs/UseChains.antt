@@ -78,7 +78,7 @@ same_or_not (suc b) (suc n) = by (same_or_not b n)
     by (inl e) = inl (ap suc e)
     by (inr off) = inr (λ e. off (omega arith))
 
--- of no binder that has a chain
+-- a use is added that is of no binder with a chain
 chains_skip : (firsts nexts more longer : List ℕ) (us : List UseRow) (i : ℕ) (d : UseRow) → i < length us → ((b : ℕ) → b < length firsts → is_use_of b (text_use (get_or us i d)) ≡ false)
     → longer ≡ nexts ++ more → AreChains firsts nexts us (drop (i + 1) us) → AreChains firsts longer us (drop i us)
 chains_skip firsts nexts more longer us i d lt off pushed chains b in_firsts =
@@ -99,7 +99,7 @@ pub chains_past : (firsts nexts more longer : List ℕ) (us : List UseRow) (i : 
 chains_past firsts nexts more longer us i c d count bound past pushed chains =
     chains_skip firsts nexts more longer us i d (omega arith) (λ b lt. ap (λ o. is_number b (option_map binder_of o)) bound ∙ other_number c.binder.0 b (λ e. absurd (omega arith))) pushed chains
 
--- of this binder
+-- a use of this binder is added
 chains_more : (firsts nexts : List ℕ) (us : List UseRow) (i c : ℕ) (u : UseRow) → length nexts + i + 1 ≡ length us → u ≡ get_or us i u → (text_use u).binder ≡ Some c → c < length firsts
     → AreChains firsts nexts us (drop (i + 1) us)
     → AreChains (slice_set firsts c (suc (length nexts))) (nexts ++ get_or firsts c 0 ∷ []) us (drop i us)

@@ -26,12 +26,12 @@ pub type_fields_of-take : (fs : List TyField) (i : ℕ) (f : TyField) → i < le
 type_fields_of-take fs i f lt is =
     rw add-one (rw (take-suc fs i f lt) (type_fields_of-push (take i fs) (get_or fs i f) ∙ ap (λ g. joined_types (type_fields_of (take i fs)) (type_field (word_of g.label) (type_of g.ty) no_type_fields)) (sym is)))
 
--- what is counted, and what comes behind it
+-- a number, and what is counted after it
 abbrev pub plus_capped : ℕ → Option ℕ → Option ℕ
 plus_capped n None = None
 plus_capped n (Some m) = Some (min (n + m) (node_limit + 1))
 
--- fields in front of those of a record type
+-- fields, followed by those of a record type
 abbrev pub behind_fields : Fields → Option Fields → Option Fields
 behind_fields gs = option_map (λ hs. joined gs hs)
 

@@ -25,19 +25,19 @@ abbrev mutual
   EachWrittenInTerm Claim (variable n) = Unit {0}
   EachWrittenInTerm Claim (free x) = Unit {0}
 
-  -- of each in the terms of a record
+  -- the claim holds of each in the terms of a record
   pub EachWrittenInTerms : (Option Typ → Type 0) → TermFields → Type 0
   EachWrittenInTerms Claim no_terms = Unit {0}
   EachWrittenInTerms Claim (term_field l e es) = EachWrittenInTerm Claim e × EachWrittenInTerms Claim es
 
--- of each in a statement
+-- the claim holds of each in a statement
 abbrev pub EachWrittenInStatement : (Option Typ → Type 0) → Statement → Type 0
 EachWrittenInStatement Claim (defines e) = EachWrittenInTerm Claim e
 EachWrittenInStatement Claim (declares w) = Claim w
 EachWrittenInStatement Claim (abbreviates w) = Claim w
 EachWrittenInStatement Claim (states e) = EachWrittenInTerm Claim e
 
--- of each in statements
+-- the claim holds of each in statements
 abbrev pub EachWrittenInStatements : (Option Typ → Type 0) → List Statement → Type 0
 EachWrittenInStatements Claim [] = Unit {0}
 EachWrittenInStatements Claim (statement ∷ rest) = EachWrittenInStatement Claim statement × EachWrittenInStatements Claim rest

@@ -10,7 +10,7 @@ use Rattle.lam_scope.specs.declared.interned.InternedField.{InternedField}
 use Rattle.lam_scope.specs.declared.interned.InternedStatement.{InternedStatement}
 use Rattle.lam_scope.specs.declared.interned.InternedStatement.TheVariants as interned
 
--- labelled terms as the fields of a record
+-- labeled terms as the fields of a record
 abbrev pub numbered_made : List (Label × Numbered) → NumberedFields
 numbered_made [] = no_terms
 numbered_made (f ∷ fs) = term_field f.0 f.1 (numbered_made fs)
@@ -43,7 +43,7 @@ numbered_field_step f = (f.label.now, f.term)
 unfoldable pub numbered_of : InternedTerm → Numbered
 numbered_of = fold-InternedTerm Numbered (Label × Numbered) numbered_step numbered_field_step
 
--- the trees of labelled terms
+-- the trees of labeled terms
 abbrev pub numbered_terms : List InternedField → NumberedFields
 numbered_terms [] = no_terms
 numbered_terms (f ∷ fs) = term_field f.label.now (numbered_of f.term) (numbered_terms fs)
@@ -52,7 +52,7 @@ numbered_terms (f ∷ fs) = term_field f.label.now (numbered_of f.term) (numbere
 abbrev pub interned_term : List Typ → InternedTerm → Term
 interned_term ts e = term_over ts (numbered_of e)
 
--- labelled terms, as the fields of a record
+-- labeled terms, as the fields of a record
 abbrev pub interned_terms : List Typ → List InternedField → TermFields
 interned_terms ts fs = terms_over ts (numbered_terms fs)
 
@@ -67,11 +67,11 @@ interned_statement ts (interned.Evaluation e) = states (interned_term ts e)
 abbrev pub StandIn : List Typ → InternedTerm → Type 0
 StandIn ts e = NumbersStand ts (numbered_of e)
 
--- each type id of labelled terms is
+-- the same for labeled terms
 abbrev pub StandInTerms : List Typ → List InternedField → Type 0
 StandInTerms ts fs = NumbersStandInAll ts (numbered_terms fs)
 
--- each type id of a statement is
+-- the same for a statement
 abbrev pub StandInStatement : List Typ → InternedStatement → Type 0
 StandInStatement ts (interned.Definition e) = StandIn ts e
 StandInStatement ts (interned.Declaration w) = StandsIfAny ts w

@@ -168,7 +168,7 @@ fn unless_repeated(field: &TyField, later: &[TyField], number: Option<TyNo>) -> 
     number
 }
 
-/// Appends one more labelled id, if there is a list to append to and an id.
+/// Appends one more labeled id, if there is a list to append to and an id.
 fn with_item<'f>(
     items: Option<Vec<(&'f str, TyNo)>>,
     label: &'f str,

@@ -1,4 +1,4 @@
--- Where tokens of a text start a command, the text up to there goes on to one: with tokens of the kinds that are still wanted.
+-- If tokens of a text start a command, the text up to their end can go on so that a command begins with them: with tokens of the kinds still wanted.
 use Rattle.std.proofs.Common.{◌≡◌, ℕ, true, false, List, [], ◌∷◌, ◌++◌, take, map, sym, refl, ap, ◌∙◌, subst, append_assoc}
 use Rattle.std.specs.Str.{IsUtf8}
 use Rattle.lam_token.specs.declared.kind.Kind.{Kind}
@@ -26,7 +26,7 @@ same_behind : (ts more rest : List Lexeme) → map kind_of more ≡ map kind_of 
 same_behind [] more rest same = same
 same_behind (t ∷ ts) more rest same = ap (λ l. kind_of t ∷ l) (same_behind ts more rest same)
 
--- the kinds of tokens that are wanted to make a command of these
+-- the kinds of the tokens that are still wanted to make a command of these
 wanted : (tokens : List Lexeme) → Begins tokens → List Kind
 wanted tokens begins = map kind_of begins.0
 
@@ -82,7 +82,7 @@ inside_continued text before tokens t behind is_text are begins =
     continued (take (start_of t) text) before tokens begins
     (front_goes_on text (before ++ tokens) t behind (wanted tokens begins) is_text (subst (AreTokensOf text) (sym (append_assoc before tokens (t ∷ behind))) are) (wanted_good tokens begins).1)
 
--- ---- and only there
+-- ---- and only then
 
 pub continued_begins : (front : List ℕ) (before tokens : List Lexeme) → IsContinued front before tokens → Begins tokens
 continued_begins front before tokens found = (found.rest, found.command, found.is_command)

@@ -1,4 +1,4 @@
--- Tokens changed to others of their kinds fall into the same pieces, and as many of them are too many or bad.
+-- Tokens changed to others of their kinds are divided into the same pieces, and are too many or bad exactly if they were before.
 use Rattle.std.proofs.Common.{◌≡◌, ◌↔◌, ℕ, ◌≤◌, Bool, true, false, ◌||◌, if◌then◌else◌, List, [], ◌∷◌, map, filter, refl, sym, ap, ◌∙◌, subst}
 use Rattle.std.proofs.lemmas.List.{length-map}
 use Rattle.lam_token.specs.Lexeme.{Lexeme, lexeme, kind_of}
@@ -12,7 +12,7 @@ module _ (change : Lexeme → Lexeme) (same_kind : (t : Lexeme) → kind_of (cha
   onto_first_changed t [] = refl
   onto_first_changed t (run ∷ runs) = refl
 
-  -- whether it ends a piece or not, it divides the changed runs as it divided those that they were
+  -- the changed token divides the changed runs as the token divided the runs, whether it ends a piece or not
   divided_changed : (ends : Bool) (t : Lexeme) (runs : List (List Lexeme))
       → (if ends then [] ∷ map (map change) runs else onto_first (change t) (map (map change) runs)) ≡ map (map change) (if ends then [] ∷ runs else onto_first t runs)
   divided_changed true t runs = refl
@@ -26,7 +26,7 @@ module _ (change : Lexeme → Lexeme) (same_kind : (t : Lexeme) → kind_of (cha
       ∙ ap (λ runs. if ends_piece (kind_of t) then [] ∷ runs else onto_first (change t) runs) (runs_changed ts)
       ∙ divided_changed (ends_piece (kind_of t)) t (runs_of ts)
 
-  -- a changed run is empty where the run was
+  -- a changed run is empty exactly if the run was
   filled_changed : (runs : List (List Lexeme)) → filter has_tokens (map (map change) runs) ≡ map (map change) (filter has_tokens runs)
   filled_changed [] = refl
   filled_changed ([] ∷ runs) = filled_changed runs
@@ -41,7 +41,7 @@ module _ (change : Lexeme → Lexeme) (same_kind : (t : Lexeme) → kind_of (cha
   bad_changed [] = refl
   bad_changed (t ∷ ts) = ap (λ kind. is_bad kind || has_bad (map change ts)) (same_kind t) ∙ ap (λ bad. is_bad (kind_of t) || bad) (bad_changed ts)
 
-  -- the grammar decides on the changed tokens where it decides on those that they were
+  -- the grammar decides on the changed tokens exactly if it decides on the tokens before
   taken_changed : (ts : List Lexeme) → IsLexed (map change ts) ↔ IsLexed ts
   taken_changed ts = (
     λ taken. record { few = subst (λ n. n ≤ token_limit) (length-map ts change) taken.few; none_bad = sym (bad_changed ts) ∙ taken.none_bad },
@@ -56,6 +56,6 @@ kind_respelled place letters (lexeme k x s) = refl
 pub pieces_respelled : (place : ℕ → ℕ) (letters : Letters) (ts : List Lexeme) → pieces_of (map (respelled place letters) ts) ≡ map (map (respelled place letters)) (pieces_of ts)
 pieces_respelled place letters ts = pieces_changed (respelled place letters) (kind_respelled place letters) ts
 
--- as many of them are too many or bad
+-- they are too many or bad exactly if they were before
 pub taken_respelled : (place : ℕ → ℕ) (letters : Letters) (ts : List Lexeme) → IsLexed (map (respelled place letters) ts) ↔ IsLexed ts
 taken_respelled place letters ts = taken_changed (respelled place letters) (kind_respelled place letters) ts

@@ -16,7 +16,7 @@ module _ (place : ℕ → ℕ) (letters : Letters) where
   respelled_binder name_binder = name_binder
   respelled_binder blank_binder = blank_binder
 
-  -- Each of these is spelled by the production that it was. Where a production names the span of a tree, the tree is taken as a node, so that its span computes.
+  -- Each tree is spelled by the same production as before. Where a production names the span of a tree, the tree is taken apart, so that its span computes.
 
   mutual
     -- a written type

@@ -36,7 +36,7 @@ pieces_of-run ts =
     ap (filter has_tokens) (runs_of-head ts)
     ∙ ap (with_piece (take (run_len ts) ts)) (behind-others ts)
 
--- one run more
+-- the next run, and a piece if it is not empty
 pub run_more : (ts piece behind : List Lexeme) (found : List (List Lexeme)) (n : ℕ) (all : List (List Lexeme)) → n ≡ run_len ts → piece ≡ take n ts → behind ≡ drop 1 (drop n ts) → found ++ pieces_of ts ≡ all → found ++ with_piece piece (pieces_of behind) ≡ all
 run_more ts piece behind found n all at is behind_is so_far =
     let piece_is : piece ≡ take (run_len ts) ts = is ∙ ap (λ m. take m ts) at in
@@ -83,7 +83,7 @@ piece_ended piece left t none ends = ap (filter has_tokens) (ended_run piece lef
 pub last_piece : (piece : List Lexeme) → All GoesOn piece → pieces_of piece ≡ with_piece piece []
 last_piece piece none = ap (filter has_tokens) (last_run piece (recursion_from_All GoesOn piece none))
 
--- a piece at the end of those found, and none
+-- a run that is put at the end of the pieces found, and one that is not, as it is empty
 
 pushed : (found : List (Bor (List Lexeme))) (piece : Bor (List Lexeme)) (ps : List (List Lexeme)) → map (λ p. p.now) (found ++ piece ∷ []) ++ ps ≡ map (λ p. p.now) found ++ piece.now ∷ ps
 pushed [] piece ps = refl

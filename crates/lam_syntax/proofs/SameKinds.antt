@@ -21,7 +21,7 @@ abbrev refilled : List Lexeme → Supply → List Lexeme
 refilled [] f = []
 refilled (lexeme k x s ∷ ts) f = lexeme k (text_of (f 0)) (span_of (f 0)) ∷ refilled ts (later f)
 
--- The tokens in front of the rest are spelled by the production that they were, with some tree; the supply that is left fills the rest.
+-- The refilled tokens are spelled by the same production, with some tree, up to the rest, which is filled from what is left of the supply.
 
 binder_again : {ts rest : List Lexeme} {b : Bound} → BinderIs ts b rest → (f : Supply) → (g : Supply) × (c : Bound) × BinderIs (refilled ts f) c (refilled rest g)
 binder_again name_binder f = (later f, _, name_binder)
@@ -153,7 +153,7 @@ abbrev pub NoneBad : List Lexeme → Type 0
 NoneBad [] = Unit {0}
 NoneBad (t ∷ ts) = (is_bad (kind_of t) ≡ false) × NoneBad ts
 
--- In front of tokens that are all lexemes, what is spelled is lexemes too.
+-- If all tokens of the rest are lexemes, so are the tokens spelled before it.
 
 binder_good : {ts rest : List Lexeme} {b : Bound} → BinderIs ts b rest → NoneBad rest → NoneBad ts
 binder_good name_binder g = (refl, g)

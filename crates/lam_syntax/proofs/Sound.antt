@@ -22,7 +22,7 @@ purpose_kind for_lambda = kind.Lambda
 purpose_kind for_let = kind.Let
 purpose_kind for_letrec = kind.Letrec
 
--- Fields are spelled up to a closing brace, and the record of those before and these fits in its place.
+-- Fields are spelled up to a closing brace, and the record of the fields before and these ones fits.
 
 abbrev TypeFieldsNeed : Span → TypeFields → (TypeTree → List Lexeme → Type 0) → List Lexeme → Type 0
 TypeFieldsNeed s before fits ts =
@@ -32,7 +32,7 @@ abbrev FieldsNeed : Span → FieldTrees → (TermTree → List Lexeme → Type 0
 FieldsNeed s before fits ts =
     (fs : FieldTrees) × (y : List ℕ) × (e : Span) × (rest : List Lexeme) × FieldsAre ts fs (lexeme kind.CloseBrace y e ∷ rest) × fits (term_tree (from_to s e) (record_term (joined before fs))) rest
 
--- Whatever tokens spelled what is begun, they and these, each in its place, are the command.
+-- Whatever tokens spelled what is unfinished, they and these, in their order, spell the command.
 
 abbrev mutual
   TermNeeds : InTerm → List Lexeme → CommandTree → Type 0
@@ -77,7 +77,7 @@ TypeNeeds (in_type_parens s k) ts c = (x : List ℕ) → TypeNeeds k (lexeme kin
 TypeNeeds (in_type_field s before (word l r) k) ts c =
     (x : List ℕ) (m : Span) → TypeFieldsNeed s before (λ a rest. (mid : List Lexeme) → ATypeIs mid a rest → TypeNeeds k mid c) (lexeme kind.Name l r ∷ lexeme kind.Colon x m ∷ ts)
 
--- the same, behind what has been read
+-- the same after what has been read
 
 abbrev ATypeGoes : InType → TypeTree → List Lexeme → CommandTree → Type 0
 ATypeGoes k t rest c = (mid : List Lexeme) → ATypeIs mid t rest → TypeNeeds k mid c
@@ -118,7 +118,7 @@ Goes (need_field s k) ts c = (x : List ℕ) → PathNeeds k (lexeme kind.OpenBra
 Goes (next_field s before k) ts c = FieldsNeed s before (λ a rest. AtomGoes k a rest c) ts
 Goes (after_label s before (word l r) k) ts c = FieldsNeed s before (λ a rest. AtomGoes k a rest c) (lexeme kind.Name l r ∷ ts)
 
--- what is known behind the first token
+-- what is known of the tokens after the first
 abbrev Known : List Lexeme → CommandTree → Type 0
 Known [] c = Unit {0}
 Known (t ∷ ts) c = (s : State) → run ts s ≡ tree c → Goes s ts c
@@ -148,7 +148,7 @@ term_goes (lexeme kind.CloseBrace y e ∷ ts) t (in_field s before (word l r) k)
     (field (word l r) t no_fields, y, e, ts, last_field d, known (after_atom _ k) h)
 term_goes ts t k c known h = absurd (no_tree _ _ h)
 
--- where an atom begins, in each place of a path
+-- an atom begins, in each place of a path
 
 atom_begun : (ts : List Lexeme) (k : InPath) (c : CommandTree) → Known ts c → look ts (λ o. begin_atom o k) ≡ tree c → PathNeeds k ts c
 atom_begun (lexeme kind.OpenParen x s ∷ ts) k c known h = known (need_term (in_parens s k)) h x

@@ -19,7 +19,7 @@ use Rattle.lam_syntax.specs.inner.Reads.{Reads, ReadsBehind, ReadsAll, Names, Ex
 pub known_kind : (tokens rest : List Lexeme) (t : Lexeme) (k : Kind) → tokens ≡ t ∷ rest → k ≡ kind_of t → tokens ≡ lexeme k (text_of t) (span_of t) ∷ rest
 known_kind tokens rest (lexeme j x s) k are is = are ∙ ap (λ i. lexeme i x s ∷ rest) (sym is)
 
--- no word that a term other than an application begins with
+-- the first token is none of the keywords that begin a term other than an application
 pub no_word : (t : Lexeme) (tokens rest : List Lexeme) (k : InTerm) → tokens ≡ t ∷ rest
     → (kind_of t ≡ kind.Lambda → ⊥) → (kind_of t ≡ kind.If → ⊥) → (kind_of t ≡ kind.Let → ⊥) → (kind_of t ≡ kind.Letrec → ⊥)
     → run tokens (need_term k) ≡ look tokens (λ o. begin_app o k)
@@ -29,7 +29,7 @@ no_word (lexeme kind.Let x s) tokens rest k are a b c d = absurd (c refl)
 no_word (lexeme kind.Letrec x s) tokens rest k are a b c d = absurd (d refl)
 no_word (lexeme _ x s) tokens rest k are a b c d = ap (λ l. run l (need_term k)) are ∙ sym (ap (λ l. look l (λ o. begin_app o k)) are)
 
--- a name without a mark
+-- a name that neither `=` nor `:` follows
 no_mark : (x : List ℕ) (s : Span) (rest : List Lexeme) → NoFront kind.Equals rest → NoFront kind.Colon rest → run (lexeme kind.Name x s ∷ rest) need_command ≡ run (lexeme kind.Name x s ∷ rest) (need_term of_evaluation)
 no_mark x s [] a b = refl
 no_mark x s (lexeme kind.Equals y r ∷ ts) a b = absurd (a y r ts refl)
@@ -41,7 +41,7 @@ name_alone t tokens rest are is a b =
     let known = known_kind tokens rest t kind.Name are is in
     ap (λ l. run l need_command) known ∙ no_mark (text_of t) (span_of t) rest a b ∙ sym (ap (λ l. run l (need_term of_evaluation)) known)
 
--- a record type with fields, and its next field
+-- a record type that has a field: what comes is its next field
 pub some_type_fields : (tokens : List Lexeme) (s : Span) (k : InType) → NoFront kind.CloseBrace tokens → run tokens (need_type_field s k) ≡ run tokens (next_type_field s no_type_fields k)
 some_type_fields [] s k none = refl
 some_type_fields (lexeme kind.CloseBrace x e ∷ ts) s k none = absurd (none x e ts refl)
@@ -54,13 +54,13 @@ some_fields (lexeme kind.CloseBrace x e ∷ ts) s k none = absurd (none x e ts r
 some_fields (lexeme kind.Name x e ∷ ts) s k none = refl
 some_fields (lexeme _ x e ∷ ts) s k none = refl
 
--- no type behind an atom
+-- an atom without an ascription
 pub no_ascription : (tokens : List Lexeme) (t : TermTree) (k : InPath) → NoFront kind.As tokens → run tokens (after_atom t k) ≡ look tokens (λ o. ended_asc o t k)
 no_ascription [] t k none = refl
 no_ascription (lexeme kind.As x s ∷ ts) t k none = absurd (none x s ts refl)
 no_ascription (lexeme _ x s ∷ ts) t k none = refl
 
--- where reading stops, the whole stops
+-- if reading a part stops, the whole stops
 
 pub reads_stop : {X Y : Type 0} (e : Stop) (o p : Outcome) (f : X → List Lexeme → Outcome) (g : Y → List Lexeme → Outcome) → p ≡ o → Reads (Err e) o f → Reads (Err e) p g
 reads_stop (At left) o p f g same h = same ∙ h
@@ -113,17 +113,17 @@ pub dot_label_stop : {X : Type 0} (tokens rest : List Lexeme) (m : Span) (e : St
 dot_label_stop tokens rest m (At left) t k o f so_far front h = so_far ∙ dot_read tokens rest m t k front ∙ no_dot_label rest t k h.1 ∙ ap fault (sym h.0)
 dot_label_stop tokens rest m Memory t k o f so_far front h = tt
 
--- the same run under another name
+-- the same for an outcome equal to this one
 pub reads_same : {X : Type 0} (r : Result (X × Bor (List Lexeme)) Stop) (o p : Outcome) (f : X → List Lexeme → Outcome) → p ≡ o → Reads r o f → Reads r p f
 reads_same (Ok r) o p f same h = same ∙ h
 reads_same (Err e) o p f same h = reads_stop e o p f f same h
 
--- where an expected token is missing, the run has its fault
+-- where an expected token is missing, the run stops
 pub expect_stop : {X : Type 0} (tokens : List Lexeme) (k : Kind) (e : Stop) (o : Outcome) (f : X → List Lexeme → Outcome) (g : List Lexeme → Outcome) → o ≡ g tokens → (NoFront k tokens → g tokens ≡ fault tokens) → Expects k tokens (Err e) → Reads (Err e) o f
 expect_stop tokens k (At left) o f g same stops h = same ∙ stops h.1 ∙ ap fault (sym h.0)
 expect_stop tokens k Memory o f g same stops h = tt
 
--- a term behind a token: the token is there, or is missing
+-- a term after a token, which is there or is missing
 
 pub behind_front : (tokens after : List Lexeme) (k : Kind) (s : Span) (r : Result (Tm × Bor (List Lexeme)) Stop) → Front k tokens s after → ((j : InTerm) → Reads r (run after (need_term j)) (behind_term j)) → ReadsBehind k tokens r
 behind_front tokens after k s (Ok r) front read = (s, after, front, read)
@@ -134,7 +134,7 @@ pub behind_none : (tokens : List Lexeme) (k : Kind) (e : Stop) → Expects k tok
 behind_none tokens k (At left) h = inl h
 behind_none tokens k Memory h = tt
 
--- where the run from `g` wants such a token and a term in the place `j`, it stops as the reading of them does, and goes on as it does
+-- where the run from `g` wants such a token and then a term in the place `j`, it stops if reading them stops, and otherwise goes on after them
 
 pub behind_stop : {X : Type 0} (tokens : List Lexeme) (k : Kind) (e : Stop) (j : InTerm) (o : Outcome) (f : X → List Lexeme → Outcome) (g : List Lexeme → Outcome) → o ≡ g tokens → (NoFront k tokens → g tokens ≡ fault tokens) → ((x : List ℕ) (s : Span) (after : List Lexeme) → g (lexeme k x s ∷ after) ≡ run after (need_term j)) → ReadsBehind k tokens (Err e) → Reads (Err e) o f
 behind_stop tokens k (At left) j o f g same stops there (inl h) = same ∙ stops h.1 ∙ ap fault (sym h.0)

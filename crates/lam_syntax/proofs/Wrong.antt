@@ -19,7 +19,7 @@ nowhere = record { start = 0; end = 0 }
 some : Kind → Lexeme
 some k = lexeme k [] nowhere
 
--- tokens that a term may end before and that complete what is begun round it
+-- tokens before which a term may end, and which complete what is begun around it
 record Closing (k : InTerm) : Type 0 where
   more : List Lexeme
   ends : TermEnds more
@@ -30,14 +30,14 @@ record ClosingType (k : InType) : Type 0 where
   ends : TypeEnds more
   closes : (t : TypeTree) → (c : CommandTree) × (look more (λ o. ended_type o t k) ≡ tree c)
 
--- a path that ends there
+-- a path that ends before such tokens
 path_last : (k : InPath) (m : List Lexeme) → TermEnds m → (t : TermTree) → look m (λ o. ended_asc o t k) ≡ look m (λ o. ended_term o (applied t k) (outside k))
 path_last k m ends t = path_ended m t k (term_path m ends) ∙ app_ended m (applied t k) (outside k) ends
 
 atom_last : (k : InPath) (m : List Lexeme) → TermEnds m → (t : TermTree) → run m (after_atom t k) ≡ look m (λ o. ended_term o (applied t k) (outside k))
 atom_last k m ends t = atom_ended m t k (path_asc m (term_path m ends)) ∙ path_last k m ends t
 
--- behind an atom, a path that is to be completed is
+-- so a path that ends with an atom is completed by them
 path_closes : (k : InPath) → (r : Closing (outside k)) → (t : TermTree) → (c : CommandTree) × (run r.more (after_atom t k) ≡ tree c)
 path_closes k r t = let found = r.closes (applied t k) in (found.0, atom_last k r.more r.ends t ∙ found.1)
 

@@ -28,7 +28,7 @@ bound_of b = bound (option_map (λ s. letters s) b.name) b.span
 
 -- One level of a written type, whose parts are already trees.
 
--- labelled types as record-type fields
+-- labeled types as record-type fields
 abbrev pub type_fields_made : List (Word × TypeTree) → TypeFields
 type_fields_made [] = no_type_fields
 type_fields_made (f ∷ fs) = type_field f.0 f.1 (type_fields_made fs)
@@ -70,7 +70,7 @@ type_fields_of (f ∷ fs) = type_field (word_of f.label) (type_of f.ty) (type_fi
 
 -- One level of a term, whose parts are already trees.
 
--- labelled terms as record fields
+-- labeled terms as record fields
 abbrev pub fields_made : List (Word × TermTree) → FieldTrees
 fields_made [] = no_fields
 fields_made (f ∷ fs) = field f.0 f.1 (fields_made fs)

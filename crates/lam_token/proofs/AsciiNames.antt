@@ -1,4 +1,4 @@
--- Which characters of ASCII an identifier begins and goes on with.
+-- Which ASCII characters may begin an identifier, and which may continue one.
 use Rattle.std.proofs.lemmas.Str.{chars_from_encodes}
 use Rattle.std.proofs.Common.{◌≡◌, ◌==◌, ◌||◌, IsUtf8, subst, length-append, ◌<◌, ℕ, true, false, sym, ◌∙◌, ap, refl, arith, codes, [], ◌∷◌, length, Some, if◌then◌else◌}
 use Rattle.std.specs.Char.{is_ascii_alphabetic, is_ascii_alphanumeric}

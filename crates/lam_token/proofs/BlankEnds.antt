@@ -1,4 +1,4 @@
--- A blank behind a segment ends it: the segment stays the first where a blank and whatever else stands behind it, unless it is a comment that is not closed.
+-- A blank ends a segment: a first segment is still the first one if a blank and anything else come after it, unless it is a comment that is not closed.
 use Rattle.std.proofs.Common.{◌≡◌, ℕ, ◌<◌, false, cond, Option, Some, None, List, [], ◌∷◌, ◌++◌, length, refl, ap, ◌∙◌, arith}
 use Rattle.std.specs.Prelude.{◌==◌, encode_utf8_all}
 use Rattle.unicode_ident.proofs.IdentLemmas.{is_xid_continue-ascii}
@@ -14,7 +14,7 @@ use Rattle.lam_token.proofs.Shapes.{longer_fails, not_alone, longer_comment, sam
 use Rattle.lam_token.proofs.Segments.{longer_underscore, begun_slash, nothing_begins}
 use Rattle.lam_token.proofs.NextSegment.{chosen_is}
 
--- ---- a blank goes on with nothing
+-- ---- no segment goes on with a blank
 
 blank_is_no_digit : is_digit 32 ≡ false
 unfolding is_digit

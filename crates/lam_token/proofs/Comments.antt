@@ -6,7 +6,7 @@ use Rattle.lam_token.specs.Shape.{rest_of_comment, is_opening, is_closing}
 use Rattle.lam_token.specs.Comment.{begins_mark, Inside, closes, nests, goes_on}
 use Rattle.lam_token.proofs.Reading.{behind_opening, behind_closing, behind_last, behind_other}
 
--- so many comments, one in another, are closed one after another
+-- this many nested comments are closed, one after another
 abbrev Insides : ℕ → List ℕ → List ℕ → Type 0
 Insides zero cs rest = cs ≡ rest
 Insides (suc n) cs rest = (mid : List ℕ) × Inside cs mid × Insides n mid rest
@@ -22,7 +22,7 @@ closing_is b c e = let p = and_parts (b == 42) (c == 47) e in (eqb-true b 42 p.0
 no_mark : (b c : ℕ) (cs : List ℕ) → is_opening b c ≡ false → is_closing b c ≡ false → begins_mark (b ∷ c ∷ cs) ≡ false
 no_mark b c cs e f = rw (e, f) refl
 
--- a space is in no mark
+-- a space is part of no mark
 space_opens : (c : ℕ) → is_opening 32 c ≡ false
 unfolding is_opening
 space_opens c = refl
@@ -62,7 +62,7 @@ unspaced _ cs mid (goes_on {cs = ds} plain i) e = let same : ds ≡ cs = cc in s
 unspaced_all : (n : ℕ) (cs rest : List ℕ) → Insides (suc n) (32 ∷ cs) rest → Insides (suc n) cs rest
 unspaced_all n cs rest i = (i.0, unspaced (32 ∷ cs) cs i.0 i.1 refl, i.2)
 
--- what is read behind one more character is an inside, as is what is read behind the first
+-- if reading these characters after `b` leaves a rest, then `b` and they are the insides of n + 1 nested comments, up to this rest
 abbrev IsSound : List ℕ → Type 0
 IsSound cs = (n b : ℕ) (rest : List ℕ) → rest_of_comment (suc n) b cs ≡ Some rest → Insides (suc n) (b ∷ cs) rest
 

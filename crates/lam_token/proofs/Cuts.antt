@@ -21,7 +21,7 @@ use Rattle.lam_token.specs.inner.Reading.{SegmentIs}
 use Rattle.lam_token.proofs.Reading.{length_front, chars_front}
 use Rattle.lam_token.specs.Cut.{NothingBegins, NothingLonger, IsFirst, longest, unclosed, stray, Part, IsCut, with_token, tokens_of, AreTokensFrom, AreTokensOf, StandsIn, IsWholeKind}
 
--- two fronts of one length of one list
+-- two fronts of a list that are equally long are the same
 same_front : (xs ys r m : List ℕ) → xs ++ r ≡ ys ++ m → length xs ≡ length ys → (xs ≡ ys) × (r ≡ m)
 same_front [] [] r m same lengths = (refl, same)
 same_front [] (y ∷ ys) r m same lengths = absurd (omega arith)
@@ -211,7 +211,7 @@ tokens_stand text ts is_text are =
     subst (All (StandsIn text)) (sym are.tokens_are)
     (All-from_recursion (StandsIn text) _ (tokens-stand text [] 0 (chars text) are.parts (subst IsUtf8 (sym same) is_text) (sym same) refl are.cut))
 
--- the tokens from an offset on are those of the rest, of which nothing in front is one
+-- the tokens of the rest, which begins at this offset, are all the tokens of the text: what comes before has none
 abbrev pub Skips : (start : ℕ) (text : List ℕ) (offset : ℕ) (rest : List ℕ) → Type 0
 Skips start text offset rest = (others : List Lexeme) → AreTokensFrom offset rest others → AreTokensFrom start text others
 
@@ -228,7 +228,7 @@ no_token Blank bytes start others none = refl
 no_token Comment bytes start others none = refl
 no_token (Token kind) bytes start others none = absurd (none kind refl)
 
--- one segment more that is no token
+-- one more segment is skipped, which has no token
 pub skip_more : (start : ℕ) (text rest after : List ℕ) (s : Segment) (offset next : ℕ) → (is : SegmentIs rest s after) → ((kind : Kind) → s ≡ Token kind → ⊥) → next ≡ offset + length (encode_utf8_all is.segment) → Skips start text offset rest → Skips start text next after
 skip_more start text rest after s offset next is none at skips others are =
     skips others
@@ -247,13 +247,13 @@ token_first start text rest after s kind front offset t others is sort bytes tok
 pub none_left : (start : ℕ) (text rest : List ℕ) (offset : ℕ) → rest ≡ [] → Skips start text offset rest → AreTokensFrom start text []
 none_left start text rest offset is_end skips = skips [] (record { parts = []; cut = ap chars is_end ∙ chars-nil; tokens_are = refl })
 
--- a text falls into what was passed over and the rest, whose first byte has that offset where the text's has the start
+-- The text is what was passed over, followed by the rest. If the text begins at `start`, the rest begins at `offset`.
 pub record StandsBehind (start : ℕ) (text : List ℕ) (offset : ℕ) (rest : List ℕ) : Type 0 where
   pub passed : List ℕ
   pub cut : text ≡ passed ++ rest
   pub at : offset ≡ start + length passed
 
--- behind one segment more
+-- the same after one more segment
 pub stands_further : (start : ℕ) (text rest after : List ℕ) (s : Segment) (offset next : ℕ) → (is : SegmentIs rest s after) → next ≡ offset + length (encode_utf8_all is.segment) → StandsBehind start text offset rest → StandsBehind start text next after
 stands_further start text rest after s offset next is further stands =
     let bytes = encode_utf8_all is.segment in
@@ -263,7 +263,7 @@ stands_further start text rest after s offset next is further stands =
       at = omega (arith, further, stands.at, length-append stands.passed bytes);
     }
 
--- the rest is what the text has from there on
+-- the rest is the text from that offset on
 pub rest_of_text : (start : ℕ) (text : List ℕ) (offset : ℕ) (rest : List ℕ) → StandsBehind start text offset rest → rest ≡ drop (offset - start) text
 rest_of_text start text offset rest stands =
     let count : offset - start ≡ length stands.passed = omega (arith, stands.at) in
@@ -276,7 +276,7 @@ GoesOn whole rest start so_far = (others : List Lexeme) → AreTokensFrom start 
 pub goes_no_further : (whole rest : List ℕ) (start : ℕ) (so_far : List Lexeme) → AreTokensFrom start rest [] → GoesOn whole rest start so_far → AreTokensOf whole so_far
 goes_no_further whole rest start so_far none goes = subst (AreTokensOf whole) (append-nil so_far) (goes [] none)
 
--- a first segment is also the first one of itself alone
+-- a first segment is also the first segment of its own characters alone
 
 no_more : (cs : List ℕ) → NothingLonger (cs ++ []) cs
 no_more cs front after cut longer =
@@ -326,7 +326,7 @@ type_name_shape k text (longest one none_longer) is = one ∙ ap (λ n. Some (To
 type_name_shape k text (unclosed none is_open ends) is = absurd cc
 type_name_shape k text (stray none not_open single) is = absurd cc
 
--- a text that goes on behind its first segment is none by itself
+-- a text that goes on after its first segment has no shape as a whole
 longer_whole : (s : Segment) (cs rest : List ℕ) → IsFirst s cs rest → 0 < length rest → shape_of (cs ++ rest) ≡ None
 longer_whole s cs rest (longest one none_longer) more =
     none_longer (cs ++ rest) [] (sym (append-nil _)) (omega (arith, length-append cs rest))

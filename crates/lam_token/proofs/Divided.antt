@@ -1,4 +1,4 @@
--- A semicolon divides the tokens of a text: a segment that is one is the first whatever follows it.
+-- A semicolon divides the tokens of a text: it is the first segment whatever follows it.
 use Rattle.std.proofs.Common.{◌≡◌, ℕ, ◌+◌, ◌<◌, Bool, true, false, Some, List, [], ◌∷◌, ◌++◌, length, take, drop, sym, refl, ap, ◌∙◌, subst, append_assoc, arith}
 use Rattle.std.specs.Prelude.{encode_utf8_all, if◌then◌else◌}
 use Rattle.std.specs.List.{list_all}
@@ -26,7 +26,7 @@ use Rattle.lam_token.proofs.Exchanged.{size, joined, cut_joined, first_size}
 use Rattle.lam_token.proofs.EditedTexts.{scalars_parts}
 use Rattle.lam_token.proofs.OtherEnds.{LastStays, bytes_of, bytes_of-first, bytes_of-append, other_end, tokens_joined, joined-append, whole_bytes, bytes_joined, cut_back, in_front}
 
--- ---- nothing goes on with a semicolon
+-- ---- no segment that is a semicolon goes on
 
 abbrev pub is_other : Kind → Bool
 is_other Semicolon = false
@@ -70,7 +70,7 @@ semicolon_ends begin.Dash c cs rest shape = nothing_goes_on rest
 semicolon_ends (begin.Mark kind) c cs rest shape = nothing_goes_on rest
 semicolon_ends begin.Stray c cs rest shape = nothing_goes_on rest
 
--- so it is the first segment whatever follows it
+-- so a semicolon is the first segment whatever follows it
 semicolon_first : (s : Segment) (cs rest other : List ℕ) → s ≡ Token Semicolon → IsFirst s cs rest → IsFirst s cs other
 semicolon_first s [] rest other is (longest shape none) = absurd cc
 semicolon_first s (c ∷ cs) rest other is (longest shape none) =
@@ -148,7 +148,7 @@ divided_from start front rest before behind is_front are ends are_rest =
       tokens_are = tokens ∙ ap (λ n. tokens_of start ps ++ tokens_of n qs) end ∙ sym (tokens_joined start ps qs);
     }
 
--- of a whole text
+-- the same for a whole text
 pub divided : (front rest : List ℕ) (before behind : List Lexeme) → IsUtf8 front → AreTokensOf front before → EndsInSemicolon front before
     → AreTokensFrom (length front) rest behind
     → AreTokensOf (front ++ rest) (before ++ behind)
@@ -158,7 +158,7 @@ divided front rest before behind is_front are ends are_rest =
     (subst (λ n. SemicolonEndsAt n before) at ends)
     (subst (λ n. AreTokensFrom n rest behind) at are_rest)
 
--- and there is no other way
+-- and these are all its tokens
 pub divided_only : (front rest : List ℕ) (before all : List Lexeme) → IsUtf8 front → AreTokensOf front before
     → EndsInSemicolon front before → AreTokensOf (front ++ rest) all
     → (behind : List Lexeme) × (all ≡ before ++ behind) × AreTokensFrom (length front) rest behind
@@ -200,7 +200,7 @@ spelled_by start ps ts is_text cut are = record {
   tokens_are = are;
 }
 
--- by the segments up to the token and those after it
+-- a text is divided after a semicolon, given the segments up to it and those after it
 divided_at : (text : List ℕ) (before : List Lexeme) (t : Lexeme) (behind : List Lexeme) (ps qs : List Part) → IsUtf8 text
     → kind_of t ≡ Semicolon → IsCut (chars text) (ps ++ qs) → LastIsSemicolon ps
     → end_of t ≡ bytes_of ps → before ++ (t ∷ []) ≡ tokens_of 0 ps → behind ≡ tokens_of (end_of t) qs → IsDividedAfter text before t behind
@@ -220,7 +220,7 @@ divided_at text before t behind ps qs is_text kind cut last ends are are_rest =
           (spelled_by (end_of t) qs behind is.1 (cut_back (chars text) ps qs cut) are_rest);
     }
 
--- after each of its semicolons
+-- a text is divided after each of its semicolons
 pub divided_after : (text : List ℕ) (before : List Lexeme) (t : Lexeme) (behind : List Lexeme) → IsUtf8 text
     → AreTokensOf text (before ++ (t ∷ behind)) → kind_of t ≡ Semicolon
     → IsDividedAfter text before t behind

@@ -1,4 +1,4 @@
--- The bytes and the tokens of a text in which a name stands in the place of names.
+-- The bytes and the tokens of a text in which some names are replaced by a new one.
 use Rattle.std.proofs.Common.{◌≡◌, ℕ, ◌+◌, Bool, true, false, inl, inr, List, [], ◌∷◌, ◌++◌, length, take, drop, sym, refl, ap, ◌∙◌, subst, append_assoc, arith, length-append}
 use Rattle.std.specs.Prelude.{encode_utf8_all, map, ◌&&◌, if◌then◌else◌}
 use Rattle.std.specs.Str.{chars, IsUtf8, all_scalars}
@@ -50,7 +50,7 @@ module _ {kind : Kind} {name : List ℕ} where
       put_between before (encode_utf8_all p.characters) (encode_utf8_all name) (encode_utf8_all (joined qs)) _ _ _ later (sym at) (omega (arith, at, long))
       ∙ sym (encoded (spelled p name) qs before)
 
--- ---- they are a text
+-- ---- the bytes are a text
 
 scalars-append : (xs ys : List ℕ) → all_scalars (xs ++ ys) ≡ (all_scalars xs && all_scalars ys)
 scalars-append [] ys = refl

@@ -1,4 +1,4 @@
--- A name in the place of some segments of a text that are names: the segments are then those of the new text.
+-- Some segments of a text that are names are replaced by another name: what results are the segments of the new text.
 use Rattle.std.proofs.Common.{◌≡◌, ℕ, ◌+◌, ◌<◌, List, [], ◌∷◌, ◌++◌, length, Some, sym, refl, ap, ◌∙◌, subst, arith}
 use Rattle.std.specs.Prelude.{encode_utf8_all}
 use Rattle.std.proofs.lemmas.Str.{length-le-encodes}
@@ -28,7 +28,7 @@ joined (p ∷ ps) = p.characters ++ joined ps
 abbrev pub spelled : Part → List ℕ → Part
 spelled p name = record p { characters = name }
 
--- Segments that begin at a byte, the spans of some of them, which are of one kind, and the segments with a name in the place of these.
+-- Segments that begin at this byte; the spans of some of them, all of one kind; and the segments that result if a name replaces these.
 pub data Exchanged (kind : Kind) (name : List ℕ) : (start : ℕ) → List Part → List Span → List Part → Type 0 where
   nothing : {start : ℕ} → Exchanged kind name start [] [] []
   kept : {start : ℕ} {p : Part} {ps qs : List Part} {spans : List Span} → 0 < size p → Exchanged kind name (start + size p) ps spans qs → Exchanged kind name start (p ∷ ps) spans (p ∷ qs)

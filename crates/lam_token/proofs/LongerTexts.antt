@@ -1,4 +1,4 @@
--- A text, or its front up to a token, goes on to tokens of whatever kinds: behind a blank stand simple lexemes of these kinds.
+-- A text, or its front up to a token, can go on with tokens of any kinds: after a blank come simple lexemes of these kinds.
 use Rattle.std.proofs.Common.{◌≡◌, ℕ, ◌+◌, ◌<◌, true, List, [], ◌∷◌, ◌++◌, length, take, map, ◌⊎◌, inl, inr, ⊎_elim, sym, ap, ◌∙◌, subst, arith, length-append}
 use Rattle.std.specs.Prelude.{encode_utf8_all}
 use Rattle.std.specs.Str.{chars, IsUtf8, all_scalars}
@@ -19,13 +19,13 @@ use Rattle.lam_token.proofs.SimpleTexts.{AllGood, simple_text, simple_parts, sim
 
 -- ---- another end
 
--- the last segment is no comment that is not closed
+-- the last segment is not an unclosed comment
 abbrev LastCloses : List Part → Type 0
 LastCloses [] = Unit {0}
 LastCloses (p ∷ []) = p.sort ≡ Token BadComment → ⊥
 LastCloses (p ∷ q ∷ ps) = LastCloses (q ∷ ps)
 
--- nothing open stands in front of the new end: others stood there, or the last one is closed
+-- no unclosed comment comes just before the new end: there were segments after these, or the last of these is not one
 abbrev MayEnd : List Part → List Part → Type 0
 MayEnd ps qs = (0 < length qs) ⊎ LastCloses ps
 
@@ -41,7 +41,7 @@ last_closes p rest qs cut may is_open ended =
     (λ (closed : p.sort ≡ Token BadComment → ⊥). closed is_open)
     may
 
--- so the last one stays in front of a blank
+-- so the last segment stays if a blank follows it
 may_end-stays : (ps qs : List Part) (more : List ℕ) → MayEnd ps qs → LastStays qs (32 ∷ more) ps
 may_end-stays [] qs more may = tt
 may_end-stays (p ∷ []) qs more may = λ rest cut first. blank_ends p.sort p.characters rest more (last_closes p rest qs cut may) first
@@ -87,19 +87,19 @@ goes_on_to text front tokens kinds ps qs is_text cut may are bytes good =
 
 -- ---- at the end of a text
 
--- the last token is no comment that is not closed
+-- the last token is not an unclosed comment
 abbrev pub LastTokenCloses : List Lexeme → Type 0
 LastTokenCloses [] = Unit {0}
 LastTokenCloses (t ∷ []) = kind_of t ≡ BadComment → ⊥
 LastTokenCloses (t ∷ u ∷ ts) = LastTokenCloses (u ∷ ts)
 
--- the token of the last segment
+-- then the last segment is not one either
 token_closes : (s : Segment) (bytes : List ℕ) (start : ℕ) → LastTokenCloses (with_token s bytes start []) → s ≡ Token BadComment → ⊥
 token_closes Blank bytes start closes is = cc
 token_closes Comment bytes start closes is = cc
 token_closes (Token k) bytes start closes is = closes cc
 
--- the last of those behind the first segment
+-- the same without the first token
 last_left : (t : Lexeme) (ts : List Lexeme) → LastTokenCloses (t ∷ ts) → LastTokenCloses ts
 last_left t [] closes = tt
 last_left t (u ∷ ts) closes = closes
@@ -123,7 +123,7 @@ text_goes_on text tokens kinds is_text are closes good =
 
 -- ---- in front of a token
 
--- a text goes on otherwise from one of its tokens on
+-- the front of a text before one of its tokens goes on with other tokens
 pub front_goes_on : (text : List ℕ) (tokens : List Lexeme) (t : Lexeme) (behind : List Lexeme) (kinds : List Kind) → IsUtf8 text → AreTokensOf text (tokens ++ (t ∷ behind)) → AllGood kinds → GoesOnTo (take (start_of t) text) tokens kinds
 front_goes_on text tokens t behind kinds is_text are good =
     let found = in_front 0 are.parts tokens t behind (sym are.tokens_are) in

@@ -1,4 +1,4 @@
--- Where the offsets of a text go if a name is put in the place of spans that stand one behind the other.
+-- Where the offsets of a text move if a name replaces spans that follow each other.
 use Rattle.std.proofs.Common.{◌≡◌, ℕ, ◌+◌, ◌-◌, ◌<◌, ◌≤◌, true, false, List, [], ◌∷◌, length, refl, ap, ◌∙◌, arith}
 use Rattle.std.specs.Prelude.{◌==◌, ◌||◌, nat_le}
 use Rattle.std.proofs.lemmas.Bool.{leb-true, lt-leb, le-leb, eq-eqb, ne_eqb, cond-true, cond-false, cond_both, and_from, and_left, or_from, or_left}
@@ -21,7 +21,7 @@ moved_before low o (s ∷ spans) new apart before =
     cond-false (nat_le s.end o) _ _ (lt-leb s.end o (omega (arith, apart.0, apart.1)))
     ∙ moved_before s.end o spans new apart.2 (omega (arith, apart.0, apart.1))
 
--- and nothing comes before the place where they begin
+-- and what is at this byte or after it does not move in front of it
 moved_from : (low o : ℕ) (spans : List Span) (new : List ℕ) → AreApart low spans → low ≤ o → low ≤ moved spans new o
 moved_from low o [] new apart from = from
 moved_from low o (s ∷ spans) new apart from =
@@ -42,7 +42,7 @@ among_first s spans =
 
 -- ---- from one byte on
 
--- From the first byte on, which goes to the second one, some last spans do what all of them do.
+-- From `start` on, which moves to `there`, only these last spans matter for how far offsets move and for which spans are among all.
 pub record Agrees (all : List Span) (new : List ℕ) (start there : ℕ) (spans : List Span) : Type 0 where
   pub moves : (o : ℕ) → start ≤ o → moved all new o + start ≡ moved spans new o + there
   pub finds : (s : Span) → start ≤ s.start → among all s ≡ among spans s
@@ -75,7 +75,7 @@ module _ (all : List Span) (new : List ℕ) where
           agrees.finds s (omega (arith, from))
           ∙ ap (λ b. b || among spans s) (and_left (s.start == start) (s.end == (start + count)) (ne_eqb s.start start (λ same. omega (arith, from, same))))
 
-  -- the byte itself
+  -- `start` itself moves to `there`
   pub agrees_here : (start there : ℕ) (spans : List Span) → AreApart start spans → Agrees all new start there spans → moved all new start ≡ there
   agrees_here start there spans apart agrees = omega (arith, agrees.moves start (omega arith), moved_before start start spans new apart (omega arith))
 

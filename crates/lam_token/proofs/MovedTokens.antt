@@ -19,7 +19,7 @@ module _ (place : ℕ → ℕ) where
   with_placed (Token k) bytes start there ts us first last others =
       (λ i. lexeme k bytes (record { start = first i; end = last i }) ∷ others i)
 
-  -- from the first byte on, which goes to `there`, each goes as far as that one
+  -- if `start` moves to `there` and each later offset moves as far, the tokens from `there` on are those from `start` on, moved
   pub tokens_placed : (start there : ℕ) (ps : List Part) → ((o : ℕ) → start ≤ o → place o + start ≡ o + there)
       → tokens_of there ps ≡ map (placed_by place) (tokens_of start ps)
   tokens_placed start there [] moves = refl
@@ -40,7 +40,7 @@ module _ (place : ℕ → ℕ) where
     tokens_are = ap (map (placed_by place)) are.tokens_are ∙ sym (tokens_placed start there are.parts moves);
   }
 
--- so many bytes further on
+-- the tokens of a text that begins that many bytes further on are those, moved
 pub moved_further : (count : ℕ) (text : List ℕ) (tokens : List Lexeme) → AreTokensOf text tokens
     → AreTokensFrom count text (map (moved_by count) tokens)
 moved_further count text tokens are = tokens_are_placed (λ o. o + count) 0 count text tokens (λ o from. omega arith) are
@@ -53,13 +53,13 @@ moved_back count text tokens are =
     let alone = are_tokens_at 0 text in
     (others, alone, one_list_from count text (map (moved_by count) others) tokens (moved_further count text others alone) are)
 
--- from one offset to another
+-- the same from any offset to any other
 pub moved_anywhere : (start other : ℕ) (text : List ℕ) (tokens : List Lexeme) → AreTokensFrom start text tokens
     → AreTokensFrom other text (map (moved_from start other) tokens)
 moved_anywhere start other text tokens are =
     tokens_are_placed (λ o. (o - start) + other) start other text tokens (λ o from. omega (arith, from)) are
 
--- the last one is still a semicolon
+-- if the last one is a semicolon, it still is one, and ends where its end is moved to
 pub ends_moved : (count end : ℕ) (tokens : List Lexeme) → SemicolonEndsAt end tokens → SemicolonEndsAt (end + count) (map (moved_by count) tokens)
 ends_moved count end [] ends = absurd ends
 ends_moved count end (lexeme k text s ∷ []) ends = (ends.0, ap (λ n. n + count) ends.1)

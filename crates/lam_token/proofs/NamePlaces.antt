@@ -65,7 +65,7 @@ byte_of_name bytes none i inside = (
 
 -- ---- the place of a name among the characters of a text
 
--- the characters are some in front, a name whose bytes have that place, and others
+-- the characters are some others, then a name whose bytes have this span, and then others
 record HasName (kind : Kind) (start : ℕ) (cs : List ℕ) (s : Span) : Type 0 where
   front : List ℕ
   name : List ℕ
@@ -106,7 +106,7 @@ place_has_name kind start (p ∷ ps) cs s is cut place =
 
 -- ---- and among its bytes
 
--- the bytes with that place are a name's, and those in front of it are text
+-- the bytes with this span are those of a name, and those before it are a text
 pub record HoldsName (text : List ℕ) (s : Span) : Type 0 where
   pub before : List ℕ
   pub name : List ℕ

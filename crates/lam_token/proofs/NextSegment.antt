@@ -1,4 +1,4 @@
--- What stands behind a segment bears on it by its first character alone, and there one name is as any other.
+-- What follows a segment affects it by its first character alone, and there any name is like any other.
 use Rattle.std.proofs.Common.{◌≡◌, ℕ, ◌<◌, Bool, true, false, cond, Option, Some, None, List, [], ◌∷◌, ◌++◌, length, ◌⊎◌, inl, inr, ⊎_elim, sym, refl, ap, ◌∙◌, subst, append_assoc, arith, length-append}
 use Rattle.std.specs.Prelude.{◌==◌, encode_utf8_all}
 use Rattle.std.specs.List.{list_all}
@@ -120,7 +120,7 @@ name_begins c cs kind is shape = begins_by (beginning_of c) c cs kind is (beginn
 
 -- ---- what a segment goes on with
 
--- what would make a segment that begins so longer
+-- the characters that would make a segment longer, by what begins it
 abbrev pub goes_on : Beginning → ℕ → Bool
 goes_on begin.Digit = is_digit
 goes_on begin.Letter = is_continuing
@@ -150,7 +150,7 @@ ends c cs [] s is none = tt
 ends c cs (x ∷ rest) s is none =
     next_fails (beginning_of c) c x cs s is (none (c ∷ cs ++ x ∷ []) rest (sym (append_assoc (c ∷ cs) (x ∷ []) rest)) (omega (arith, length-append cs (x ∷ []))))
 
--- and if that does not come next, the segment is the longest
+-- and if no such character comes next, the segment is the longest
 longer_none : (b : Beginning) (c : ℕ) (cs rest front after : List ℕ) (s : Segment) → begun b c cs ≡ Some s → EndsRun (goes_on b) rest → cs ++ rest ≡ front ++ after → length cs < length front → begun b c front ≡ None
 longer_none begin.Blank c cs rest front after s is stop same longer = not_alone Blank front (omega arith)
 longer_none begin.Slash c [] rest front after s is stop same longer = absurd cc
@@ -215,16 +215,16 @@ stays_stray c rest none stop =
     (nothing_begins c rest (beginning_of c) refl (λ front after same. stray_none (beginning_of c) c rest front after none stop same))
     (stray_opens (beginning_of c) rest stop) refl
 
--- ---- one name comes next as any other
+-- ---- any name that comes next is like any other
 
--- texts that begin with one character, or each with a name
+-- texts that begin with the same character, or each with a name
 abbrev pub StartsAlike : List ℕ → List ℕ → Type 0
 StartsAlike [] [] = Unit {0}
 StartsAlike [] (d ∷ ds) = ⊥
 StartsAlike (c ∷ cs) [] = ⊥
 StartsAlike (c ∷ cs) (d ∷ ds) = (c ≡ d) ⊎ (BeginsName c × BeginsName d)
 
--- a test that finds one name as any other
+-- a test that does not tell the beginning of one name from that of another
 abbrev IsBlind : (ℕ → Bool) → Type 0
 IsBlind test = (c d : ℕ) → BeginsName c → BeginsName d → test c ≡ test d
 
@@ -272,7 +272,7 @@ first_alike s (c ∷ d ∷ cs) rest other alike (stray none not_open single) = a
 name_goes_on : (b : Beginning) → MayBeginName b → goes_on b ≡ is_continuing
 name_goes_on b begins = ⊎_elim (λ letter. ap goes_on letter) (λ underscore. ap goes_on underscore) begins
 
--- a name is the first segment as the longest one
+-- a name that is the first segment is the longest prefix with a shape
 pub name_longest : (kind : Kind) (cs rest : List ℕ) → IsNameKind kind → IsFirst (Token kind) cs rest → (shape_of cs ≡ Some (Token kind)) × NothingLonger (cs ++ rest) cs
 name_longest kind cs rest is (longest shape none) = (shape, none)
 name_longest kind cs rest is (unclosed none is_open ended) = absurd (⊎_elim (λ e. cc) (λ e. cc) is)

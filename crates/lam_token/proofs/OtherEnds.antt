@@ -1,4 +1,4 @@
--- The first segments of a text stay where another end follows them, and so do their tokens.
+-- The first segments of a text stay the same if another end follows them, and so do their tokens.
 use Rattle.std.proofs.Common.{◌≡◌, ℕ, ◌+◌, List, [], ◌∷◌, ◌++◌, length, sym, refl, ap, ◌∙◌, subst, append_assoc, arith, length-append}
 use Rattle.std.specs.Prelude.{encode_utf8_all}
 use Rattle.std.specs.Str.{chars, IsUtf8}
@@ -42,7 +42,7 @@ bytes_joined text ps qs is_text cut =
 
 -- ---- another end
 
--- the last of these segments, which others followed, is the first one also where that end follows it
+-- the last of these segments, which the others followed, is the first segment also if this end follows it
 abbrev pub LastStays : (others : List Part) → (end : List ℕ) → List Part → Type 0
 LastStays others end [] = Unit {0}
 LastStays others end (p ∷ []) = (rest : List ℕ) → IsCut rest others → IsFirst p.sort p.characters rest → IsFirst p.sort p.characters end
@@ -115,7 +115,7 @@ one_more start p ps ts us t vs found is = record {
   others = found.others;
 }
 
--- by what the first segment is
+-- the segments around a token, case by case for the first segment of the text
 further : (start : ℕ) (p : Part) (ps : List Part) (s : Segment) (ts : List Lexeme) (t : Lexeme) (us : List Lexeme) → p.sort ≡ s
     → ((xs : List Lexeme) → tokens_of (start + size p) ps ≡ xs ++ (t ∷ us) → InFront (start + size p) ps xs t us)
     → with_token s (encode_utf8_all p.characters) start (tokens_of (start + size p) ps) ≡ ts ++ (t ∷ us) → InFront start (p ∷ ps) ts t us

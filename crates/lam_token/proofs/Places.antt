@@ -1,4 +1,4 @@
--- Spans of tokens of one kind are the places of segments, in whose place a name can be put.
+-- The spans of tokens of one kind are those of segments, which a name can replace.
 use Rattle.std.proofs.Common.{◌≡◌, ℕ, zero, suc, ◌+◌, ◌<◌, ◌≤◌, List, [], ◌∷◌, length, ◌⊎◌, inl, inr, ⊎_elim, sym, ap, ◌∙◌, subst, arith}
 use Rattle.std.specs.Prelude.{encode_utf8_all, Contains}
 use Rattle.lam_token.specs.declared.kind.Kind.{Kind}
@@ -19,7 +19,7 @@ pub have_bytes : (text : List ℕ) (ps : List Part) → IsCut text ps → HaveBy
 have_bytes text [] cut = tt
 have_bytes text (p ∷ ps) cut = (first_size p cut.0 cut.2, have_bytes cut.0 ps cut.3)
 
--- a segment of the kind stands there, where the segments begin at a byte
+-- one of these segments, of which the first begins at `start`, is of this kind and has this span
 abbrev pub IsPlace : Kind → (start : ℕ) → List Part → Span → Type 0
 IsPlace kind start [] s = ⊥
 IsPlace kind start (p ∷ ps) s = ((p.sort ≡ Token kind) × (s ≡ span_at start p)) ⊎ IsPlace kind (start + size p) ps s
@@ -71,7 +71,7 @@ place_inside kind start (p ∷ ps) s have place =
     let inside = place_inside kind (start + size p) ps s have.1 later in (omega (arith, inside.0), inside.1))
     place
 
--- behind the first segment are the places that begin behind its first byte
+-- such a span that begins after the first byte is that of a segment after the first
 place_behind : (kind : Kind) (start : ℕ) (p : Part) (ps : List Part) (s : Span) → start < s.start → IsPlace kind start (p ∷ ps) s → IsPlace kind (start + size p) ps s
 place_behind kind start p ps s behind place =
     ⊎_elim

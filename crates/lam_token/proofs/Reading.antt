@@ -24,7 +24,7 @@ first_shorter text rest c first =
 pub front_none : (text : List ℕ) → IsUtf8 text → FrontIs text [] text
 front_none text is_text = record { bytes = refl; characters = refl; is_text = is_text }
 
--- the whole text
+-- the whole text has been read
 pub front_all : (text : List ℕ) → IsUtf8 text → FrontIs text (chars text) []
 front_all text is_text = record {
   bytes = sym (encodes-chars text is_text) ∙ sym (append-nil _);

@@ -17,7 +17,7 @@ use Rattle.lam_token.specs.inner.Reading.{FirstIs, FrontIs, EndsRun, RunIs, IsBe
 use Rattle.lam_token.proofs.Reading.{front_none, front_all, front_behind, no_front}
 use Rattle.lam_token.proofs.Shapes.{longer_fails, not_alone, longer_comment, open_comment, behind_front, same_choices}
 
--- a character and those behind it are a segment, if together they are one and with more they are none
+-- a character and those after it are the first segment, if together they have a shape and with more they have none
 segment_longest : (text rest after cs : List ℕ) (c : ℕ) (b : Beginning) (s : Segment) → beginning_of c ≡ b → FirstIs text c rest → FrontIs rest cs after → begun b c cs ≡ Some s → ((front more : List ℕ) → cs ++ chars after ≡ front ++ more → length cs < length front → begun b c front ≡ None) → SegmentIs text s after
 segment_longest text rest after cs c b s begins first front is none_longer = record {
   segment = c ∷ cs;
@@ -32,7 +32,7 @@ segment_longest text rest after cs c b s begins first front is none_longer = rec
         let tail : cs ++ chars after ≡ front ++ more = cc in
         ap (λ x. shape_of (x ∷ front)) head ∙ ap (λ k. begun k c front) begins ∙ none_longer front more tail (omega arith)
 
--- a character that begins nothing
+-- no prefix of a text that begins with this character has a shape
 pub nothing_begins : (c : ℕ) (cs : List ℕ) (b : Beginning) → beginning_of c ≡ b → ((front more : List ℕ) → cs ≡ front ++ more → begun b c front ≡ None) → NothingBegins (c ∷ cs)
 nothing_begins c cs b begins none [] more same = refl
 nothing_begins c cs b begins none (d ∷ front) more same =
@@ -113,7 +113,7 @@ underscore_name_segment text rest after c first begins run shorter =
     some_run [] front = absurd (shorter (ap length (sym front.bytes)))
     some_run (d ∷ cs) front = omega arith
 
--- two characters by the test of the second
+-- a dash, and what follows it
 begun_arrow : (c : ℕ) (d : ℕ) (cs front more : List ℕ) → (d == 62) ≡ false → d ∷ cs ≡ front ++ more → begun begin.Dash c front ≡ None
 begun_arrow c d cs [] more no_arrow same = refl
 begun_arrow c d cs (e ∷ front) more no_arrow same =

@@ -6,7 +6,7 @@ use Rattle.lam_token.specs.declared.segment.Segment.{Segment}
 use Rattle.lam_token.specs.Shape.{is_opening, is_closing, rest_of_comment, alone, closed_at_end}
 use Rattle.lam_token.specs.inner.Reading.{EndsRun}
 
--- a test that fails somewhere fails for all
+-- where one test fails, not all pass
 and_false : (b : Bool) → (b && false) ≡ false
 and_false true = refl
 and_false false = refl
@@ -39,7 +39,7 @@ longer_splits (c ∷ cs) rest (f ∷ front) after same longer =
     let found = longer_splits cs rest front after tail (omega arith) in
     (found.0, found.1, (λ i. head i ∷ found.2 i))
 
--- a longer list than none is not alone
+-- a segment that something follows is not alone
 pub not_alone : (s : Segment) (front : List ℕ) → 0 < length front → alone s front ≡ None
 not_alone s [] longer = absurd (omega arith)
 not_alone s (f ∷ front) longer = refl
@@ -64,7 +64,7 @@ step_of depth before c = opens (is_opening before c) (is_closing before c) (dept
     opens false true false = inl (depth - 1, 32, λ cs. refl)
     opens false false t = inl (depth, c, λ cs. refl)
 
--- what follows the text follows what is left behind its comment
+-- what follows a text follows what is left of it after its comment
 pub rest_of_comment-append : (depth before : ℕ) (cs more r : List ℕ) → rest_of_comment depth before cs ≡ Some r → rest_of_comment depth before (cs ++ more) ≡ Some (r ++ more)
 unfolding rest_of_comment
 rest_of_comment-append depth before [] more r e = absurd cc
@@ -92,7 +92,7 @@ behind_shorter depth before (c ∷ cs) r e =
     omega (arith, ap length same_rest))
     (step_of depth before c)
 
--- a front behind which the comment leaves the rest closes by itself
+-- a comment after which exactly the rest is left is closed by the front alone
 pub behind_front : (depth before : ℕ) (front rest : List ℕ) → rest_of_comment depth before (front ++ rest) ≡ Some rest → rest_of_comment depth before front ≡ Some []
 unfolding rest_of_comment
 behind_front depth before [] rest e = absurd (omega (arith, behind_shorter depth before rest rest e))
@@ -110,7 +110,7 @@ behind_front depth before (c ∷ front) rest e =
     empty_front [] none = refl
     empty_front (x ∷ l) none = absurd (omega arith)
 
--- behind a closed comment, a longer front is none
+-- a front that goes on after a closed comment is not a comment
 pub longer_comment : (cs rest front after : List ℕ) → rest_of_comment 1 32 cs ≡ Some [] → cs ++ rest ≡ front ++ after → length cs < length front → closed_at_end (rest_of_comment 1 32 front) ≡ None
 longer_comment cs rest front after closed same longer =
     let found = longer_splits cs rest front after same longer in

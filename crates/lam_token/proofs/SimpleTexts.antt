@@ -21,13 +21,13 @@ use Rattle.lam_token.proofs.EditedTexts.{scalars_both}
 
 -- ---- a lexeme of each kind
 
--- the kind of what is no lexeme
+-- the kinds of tokens that are not lexemes
 abbrev pub is_no_lexeme : Kind → Bool
 is_no_lexeme kind.BadCharacter = true
 is_no_lexeme kind.BadComment = true
 is_no_lexeme k = false
 
--- its characters; of what is bad there is none
+-- the characters of a lexeme of this kind, if there is one
 abbrev pub simple : Kind → List ℕ
 simple kind.Name = codes "a"
 simple kind.TypeName = codes "A"

@@ -84,7 +84,7 @@ pub are_tokens_at : (start : ℕ) (text : List ℕ) → AreTokensFrom start text
 unfolding tokens_at
 are_tokens_at start text = let cut = some_cut (chars text) in record { parts = cut.0; cut = cut.1; tokens_are = refl }
 
--- they are the first and those behind it, or none
+-- they are the first token and those after it, or none
 pub first_told : (start : ℕ) (text after : List ℕ) (t : Lexeme) → ((others : List Lexeme) → AreTokensFrom (end_of t) after others → AreTokensFrom start text (t ∷ others)) → tokens_at start text ≡ t ∷ tokens_at (end_of t) after
 first_told start text after t first = one_list_from start text _ _ (first (tokens_at (end_of t) after) (are_tokens_at (end_of t) after)) (are_tokens_at start text)
 

@@ -1,4 +1,4 @@
--- Of two places in a pair the one has what the other has: the least type, its size, the blame and what it is for. So it is with lists of pairs.
+-- Of two paired places, one has what the other has: the least type, a type that is too large, the blame and its reason. The same for lists of pairs.
 use Rattle.std.proofs.Common.{◌≡◌, ℕ, ◌+◌, ◌<◌, List, [], ◌∷◌, length, get_or, Option, Some, None, slice_get, refl, subst, ◌∙◌, inl, inr, arith}
 use Rattle.std.proofs.lemmas.Option.{slice_get-get_or, slice_get_within}
 use Rattle.lam_rules.specs.Types.{Typ}
@@ -20,7 +20,7 @@ use Rattle.lam_typing.proofs.Forms.{has_no_type_within, context_length}
 use Rattle.lam_typing.proofs.JustBlames.{unblamed_by}
 use Rattle.lam_typing.proofs.NeverBlamed.{lambda_unblamed}
 
--- their parts have types where those of the other have
+-- if the parts of one of two alike terms have types, so have those of the other
 
 fields_typed : {s r : Scope} {g h : Context} {es fs : TermFields} {d : Dialect}
     → FieldsAlike g es h fs → IsLowest s g d → IsLowest r h d → AreFieldsTyped s es d → AreFieldsTyped r fs d
@@ -47,7 +47,7 @@ parts_typed (both_record is) ls lr we typed = fields_typed is ls lr typed
 parts_typed (both_project i) ls lr we typed = typed_alike i ls lr typed
 parts_typed (both_fix i) ls lr we typed = typed_alike i ls lr typed
 
--- where the one is to blame, nothing excuses the other
+-- if one is to blame, nothing excuses the other
 
 within_alike : (g h : Context) (n m : ℕ) → slice_get g n ≡ slice_get h m → m < length h → n < length g
 within_alike g h n m same lt = slice_get_within g n (get_or h m None) (same ∙ slice_get-get_or h m None lt)
@@ -74,7 +74,7 @@ code_alike : {s r : Scope} {g h : Context} {e f : Term} {d : Dialect} (code : Te
 code_alike code (both_apply i j) ls lr why = (why.0, least_alike (Some why.0) i ls lr why.1, why.2)
 code_alike code _ ls lr why = why
 
--- all this of a pair
+-- all this for a pair
 
 module _ {d : Dialect} where
   paired_least : {p q : Place} (o : Option Typ) → ArePaired d p q → IsLeastAt p.scope p.here o d → IsLeastAt q.scope q.here o d
@@ -93,7 +93,7 @@ module _ {d : Dialect} where
   paired_blamed_for : {p q : Place} (code : Text) → ArePaired d p q → IsBlamedFor p.scope p.here code d → IsBlamedFor q.scope q.here code d
   paired_blamed_for code pair why = code_alike code pair.are pair.first_lowest pair.second_lowest why
 
-  -- and of lists
+  -- and for lists of pairs
 
   all_least : {ps qs : List Place} (os : List (Option Typ)) → AllPaired d ps qs → AreLeast ps os d → AreLeast qs os d
   all_least os no_pairs least = least
@@ -132,7 +132,7 @@ module _ {d : Dialect} where
         next = next_alike cause parts.rests shown.next;
       }
 
--- what is so of alike terms in scopes with these lowest contexts
+-- all this for alike terms in scopes with these lowest contexts
 
 module _ (s r : Scope) (g h : Context) (e f : Term) (d : Dialect) (ls : IsLowest s g d) (lr : IsLowest r h d) (are : AreAlike g e h f) where
   pub least_by_free_names : (o : Option Typ) → IsLeastAt s e o d → IsLeastAt r f o d

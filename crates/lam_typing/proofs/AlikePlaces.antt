@@ -1,4 +1,4 @@
--- Alike terms in two scopes, where the contexts in which they are alike are the lowest ones: so are their places, in pairs.
+-- Terms in two scopes that are alike in the lowest contexts of these scopes: their places are alike too, in pairs.
 use Rattle.std.proofs.Common.{◌≡◌, List, [], ◌∷◌, ◌++◌, Option, ap, refl}
 use Rattle.lam_rules.specs.Types.{Typ}
 use Rattle.lam_rules.specs.Terms.{Term, TermFields}
@@ -48,7 +48,7 @@ lowest_in_let {s = s} {r = r} {g = g} {h = h} {a = a} {x = x} {d = d} i ls lr wa
 
 -- pairs of places
 
--- each with the lowest context of its scope
+-- two places with alike terms, and the lowest context of the scope of each
 pub record ArePaired (d : Dialect) (p q : Place) : Type 0 where
   pub first : Context
   pub second : Context
@@ -69,7 +69,7 @@ paired_back pair = record {
   are = alike_back pair.are;
 }
 
--- as many places as others, one by one
+-- two lists of places, paired one by one
 pub data AllPaired (d : Dialect) : List Place → List Place → Type 0 where
   no_pairs : AllPaired d [] []
   pair_first : {p q : Place} {ps qs : List Place} → ArePaired d p q → AllPaired d ps qs → AllPaired d (p ∷ ps) (q ∷ qs)
@@ -78,7 +78,7 @@ paired_before : {d : Dialect} {ps qs xs ys : List Place} → AllPaired d ps qs �
 paired_before no_pairs rest = rest
 paired_before (pair_first pair pairs) rest = pair_first pair (paired_before pairs rest)
 
--- the first of them, and the others
+-- what the first places of a list are paired with, and what the others are
 pub record PairedParts (d : Dialect) (front rest qs : List Place) : Type 0 where
   pub before : List Place
   pub behind : List Place

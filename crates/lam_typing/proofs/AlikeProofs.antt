@@ -1,4 +1,4 @@
--- A tree that proves a type of a term proves it of each term that is alike: no tree has a context in it.
+-- A tree that proves a type of a term also proves it of any term that is alike, since trees contain no contexts.
 use Rattle.std.proofs.Common.{◌∷◌, Option, Some, None}
 use Rattle.lam_rules.specs.Types.{Typ, record_of, no_fields, field}
 use Rattle.lam_rules.specs.Terms.{Term, TermFields, record_term}

@@ -1,4 +1,4 @@
--- What is found of a statement in the scope of one context is found of one that says the same in the scope of another.
+-- What is found for a statement in the scope of one context is found for an alike one in the scope of another.
 use Rattle.std.proofs.Common.{ℕ, List, [], ◌∷◌, ◌++◌, append-nil, Option, Some, None, refl, sym, subst, ◌∙◌}
 use Rattle.lam_rules.specs.Types.{Typ}
 use Rattle.lam_rules.specs.Terms.{Term}
@@ -20,7 +20,7 @@ pub lowest_of_entries : (h : Context) (d : Dialect) → IsWellFormedContext h �
 lowest_of_entries [] d wf = lowest [] [] d tt tt
 lowest_of_entries (entry ∷ h) d wf = lowest_written entry (scope_of_entries h) entry h d wf.0 refl (lowest_of_entries h d wf.1)
 
--- with the binder of a statement a lowest context is a lowest one
+-- a lowest context is still one with the binder of a statement added
 pub lowest_with : (s : Scope) (g : Context) (a : Statement) (entry : Option Typ) (d : Dialect) → IsWellFormedStatement a
     → IsLowest s g d → BindsEntry s a entry d → IsLowest (scope_with s a) (context_with g a entry) d
 lowest_with s g (defines e) (Some t) d wf low binds = lowest_some e s t g d (least_in s g e (Some t) d low binds) low
@@ -37,7 +37,7 @@ alike_statement_wf g (abbreviates w) h (abbreviates u) are wf = subst IsWellForm
 alike_statement_wf g (states e) h (states f) are wf = alike_wf (alike g e h f are) wf
 alike_statement_wf g _ h _ are wf = absurd are
 
--- A claim is so of the places of a statement where it is so of those of an alike one, if that holds of terms.
+-- A claim holds of the places of a statement if it holds of those of an alike one, provided that it carries over from term to term.
 module _ (s r : Scope) (g h : Context) (Claim : List Place → Type 0)
     (carry : (e f : Term) → AreAlike g e h f → IsWellFormedTerm f → Claim (places r f) → Claim (places s e)) where
   carry_term : (e f : Term) → AreAlike g e h f → IsWellFormedTerm f → Claim (places r f ++ []) → Claim (places s e ++ [])
@@ -66,7 +66,7 @@ module _ (s r : Scope) (g h : Context) (d : Dialect) (ls : IsLowest s g d) (lr :
       (λ e f is we one. stopped_by_free_names r s h g f e d lr ls (alike_symmetric g h e f is) n found blames cause we one)
       a b are (alike_statement_wf g a h b are wf) stopped
 
--- they bind one entry
+-- they bind the same entry
 pub statement_binds : (s r : Scope) (g h : Context) (d : Dialect) → IsLowest s g d → IsLowest r h d → (a b : Statement) (entry : Option Typ)
     → AreAlikeStatements g a h b → BindsEntry r b entry d → BindsEntry s a entry d
 statement_binds s r g h d ls lr (defines e) (defines f) entry are binds = least_by_free_names r s h g f e d lr ls (alike_symmetric g h e f are) entry binds

@@ -91,7 +91,7 @@ mutual
   are_fields_alike both_none = tt
   are_fields_alike (both_more i is) = (refl, are_alike i, are_fields_alike is)
 
--- either way round
+-- alike in either order
 
 mutual
   pub alike_back : {g h : Context} {e f : Term} → Alike g e h f → Alike h f g e

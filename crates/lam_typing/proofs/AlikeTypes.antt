@@ -8,7 +8,7 @@ use Rattle.lam_typing.proofs.AlikeTerms.{Alike, FieldsAlike, both_true, both_fal
 use Rattle.lam_typing.proofs.Derivations.{Derives, FieldsDerive, t_true, t_false, t_if, t_num, t_succ, t_pred, t_is_zero, t_var, t_abs, t_app, t_unit, t_ascribe, t_let, t_rcd, t_proj, t_fix, t_sub, none_derive, more_derive, derives_wf}
 use Rattle.lam_typing.proofs.LeastIn.{LeastIn}
 
--- one entry that two variables stand for
+-- two variables that have the same entry
 
 entry_got : (n : ℕ) (g : Context) (t : Typ) → IsEntry n g t → slice_get g n ≡ Some (Some t)
 entry_got n [] t is = absurd is

@@ -1,4 +1,4 @@
--- Form by form: from the proofs of the parts of a term to one of the type that was found of it, and why none is missing.
+-- Form by form: from the proofs of the parts of a term to one of the type that was found for it, and why none is missing.
 use Rattle.std.proofs.Common.{◌≡◌, ℕ, ◌+◌, ◌<◌, ◌≤◌, List, ◌∷◌, length, get_or, Option, Some, None, ap, refl, sym, subst, ◌∙◌, arith}
 use Rattle.lam_rules.specs.Types.{Label, Typ, bool, nat, arrow, record_of, Fields, no_fields, field, Has, IsAbsent, IsWellFormed}
 use Rattle.lam_rules.specs.Terms.{Term, true_term, false_term, if_then_else, numeral, succ, pred, is_zero, variable, free, lambda, apply, unit_term, ascribe, let_in, record_term, project, fix, TermFields, no_terms, term_field}
@@ -64,7 +64,7 @@ widened_to : (node : TypingTree) (t : Typ) (o : Option TypingTree) (g : Context)
 widened_to node t (Some q) g e d wide typing below = wide g e typing
 widened_to node t None g e d wide typing below = absurd (wide g e typing below)
 
--- the last step of a term, where its type is a least one
+-- the last step of a proof of the least type of a term
 finished : (rule : TypeRule) (u t : Typ) (ps : TypingTrees) (o : Option TypingTree) (g : Context) (e : Term) (d : Dialect)
     → IsWidened (typing_step rule u ps None) t o d → IsWellFormed u → ByTypeRule rule None g e u ps d → LeastIn g e (Some t) d → IsBelow u t d → ProvesThis o t g e d
 finished rule u t ps o g e d wide wf by least below =

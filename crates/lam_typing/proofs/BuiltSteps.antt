@@ -35,7 +35,7 @@ step_tree rule ty premises sub =
     typing_tree_of-node (roll-TypeProof record { rule = rule; ty = ty; typing = premises; sub = sub })
     ∙ ap (λ o. typing_step o.rule (typ_of o.ty) (typings_of o.typing.items) (option_map (λ q. sub_tree_of q.value) o.sub)) (out-roll-TypeProof record { rule = rule; ty = ty; typing = premises; sub = sub })
 
--- one step of subsumption more
+-- one more step, of subsumption
 pub sub_widened : (p : TypeProof) (ty : Ty) (premises : Vec TypeProof Global) (sub : Box SubProof Global) (t : Typ) (d : Dialect) → premises.items ≡ p ∷ [] → typ_of ty ≡ t
     → ProvesBelow (sub_tree_of sub.value) (typ_of (out-TypeProof p).ty) t d
     → IsWidened (typing_tree_of p) t (Some (typing_tree_of (roll-TypeProof record { rule = TypeRule.Sub; ty = ty; typing = premises; sub = Some sub }))) d
@@ -114,7 +114,7 @@ pub no_terms_of : (fs : List (String Global × Core)) → length fs ≡ 0 → te
 no_terms_of [] e = refl
 no_terms_of (f ∷ fs) e = absurd (omega arith)
 
--- the number of the first place, before what was counted
+-- the index of the first place, counted back from the place of the term
 
 pub first_before : (made : Option Proven) (n k place : ℕ) → IfSome made (λ m. m.first ≡ n) → n + k ≡ place → IfSome made (λ m. m.first + k ≡ place)
 first_before None n k place same sum = tt
@@ -124,7 +124,7 @@ pub first_behind : (made : Option Proven) (k place behind : ℕ) → IfSome made
 first_behind None k place behind sum is = tt
 first_behind (Some m) k place behind sum is = omega arith
 
--- a term of which a rule without premises concludes has no other places
+-- a term that gets its type from a rule without premises has no other places
 pub inside_leaf : (rule : TypeRule) (e : Term) (t : Typ) → IsLeafBy rule e t → inside e ≡ 0
 inside_leaf TypeRule.True true_term t is = refl
 inside_leaf TypeRule.False false_term t is = refl

@@ -1,4 +1,4 @@
--- A term without a type has one among its places that is to blame or excused.
+-- Among the places of a term without a type is one that is to blame or excused.
 use Rattle.std.proofs.Common.{◌≡◌, ◌⊎◌, ℕ, ◌<◌, ◌≤◌, List, [], ◌∷◌, ◌++◌, length, Option, Some, None, refl, sym, inl, inr, arith}
 use Rattle.std.proofs.lemmas.Bool.{cases_lt}
 use Rattle.std.proofs.lemmas.List.Elements.{Contains-append_left, Contains-append_right, Contains-push}
@@ -35,7 +35,7 @@ own_cause ps s e d untyped cause = record {
   cause = cause;
 }
 
--- where one of several claims fails there is a cause
+-- a claim holds, or there is a cause among these places
 abbrev OrCause : Type 0 → List Place → Dialect → Type 0
 OrCause A ps d = A ⊎ HasCause ps d
 

@@ -34,7 +34,7 @@ still_sound c ts keeps sound = record {
   unit = kept_number c.table ts c.leaves.unit unit keeps sound.unit;
 }
 
--- a walk that had found nothing yet, and asked for all places
+-- a walk that has found nothing yet, and of which all places are requested
 pub record HasNothing (w : Walk) : Type 0 where
   pub found : w.found.items ≡ []
   pub blames : w.blames.items ≡ []
@@ -65,7 +65,7 @@ module _ (w0 w : Walk) (d : Dialect) (none : HasNothing w0) where
 behind_none : (last : Option PlaceNumber) (n : ℕ) → last ≡ None → IsBehind last n → ⊥
 behind_none last n none behind = subst (λ o. IsBehind o n) none behind
 
--- what the walk found of one command is what is told of it
+-- what is returned for one command is what the walk found
 pub checked_by : (outcome : Result (Option TyNo) Stop) (w0 w : Walk) (statement : Statement) (types : Vec (Option TyNo) Global) (blames : Vec Blame Global) (r : Result Checked AllocError)
     → HasNothing w0 → Grows w0 w
     → IfOk outcome (λ entry. StandsWhereFound w.table entry)

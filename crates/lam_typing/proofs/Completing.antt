@@ -1,4 +1,4 @@
--- A walk that was gone to its end, with the entries of the document's binders: what is promised of the typing made of them.
+-- What is promised of the typing that is made from a finished walk and the entries of the document's binders.
 use Rattle.std.proofs.Common.{◌≡◌, ℕ, ◌+◌, List, [], ◌∷◌, length, map, take, Option, Some, None, Result, Ok, Err, IfOk, IfErr, ap, refl, sym, subst, ◌∙◌, arith, zero, suc}
 use Rattle.lam_rules.specs.Types.{Typ}
 use Rattle.lam_rules.specs.declared.rules.Dialect.{Dialect}
@@ -109,13 +109,13 @@ answer_ok w last ss origins t d sound same analysis completes =
     let typing = typing_of last ss t d analysis is in
     record { analysis = analysis; of = typing; entries = entries_of_typing w ss origins t sound typing completes; dialect = is; fault = tt }
 
--- what is answered of these sources, whatever document they are of
+-- the result for these sources, whatever document they are of
 pub told_ok : (r : Result Typing TypingFault) (w : Walk) (ss : List Statement) (origins : List Origin) (sources : List (Option Source)) → AreSourcesOf ss origins sources
     → IfOk r (λ t. (all : List Statement) (every : List Origin) → AreSourcesOf all every sources → Completes w all every t) → IfOk r (λ t. Completes w ss origins t)
 told_ok (Ok t) w ss origins sources are completes = completes ss origins are
 told_ok (Err fault) w ss origins sources are completes = tt
 
--- what is answered where all that was asked for was found
+-- the result if all that was requested was found
 pub end_enough : (stop : Stop) (r : Result Typing TypingFault) (w : Walk) (sources : List (Option Source)) → stop ≡ Stop.Enough
     → IfOk r (λ t. (all : List Statement) (every : List Origin) → AreSourcesOf all every sources → Completes w all every t) → IfErr r (λ fault. fault ≡ TypingFault.Memory)
     → (ss : List Statement) (origins : List Origin) → AreSourcesOf ss origins sources → IsEndOf stop w ss origins r

@@ -35,7 +35,7 @@ may_be under_bool_nat = tt
 bool_not_nat : Under Dialect.One bool nat → ⊥
 bool_not_nat u = elim u [ ]
 
--- an arrow turns its left sides round, so both ways are decided at once
+-- an arrow reverses the order on its left side, so both directions are decided at once
 abbrev BothWays : Dialect → Typ → Type 0
 BothWays d s = (t : Typ) → IsWellFormed t → Decided d s t × Decided d t s
 

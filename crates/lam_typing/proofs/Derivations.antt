@@ -9,7 +9,7 @@ use Rattle.lam_rules.specs.declared.rules.TypeRule.{TypeRule}
 use Rattle.lam_rules.proofs.ByShape.{below_wf}
 use Rattle.lam_rules.proofs.SharedTexts.{has_wf}
 
--- The rules. What holds of a context is asked where a rule has no premise, and of a record's labels at T-Rcd: elsewhere it follows.
+-- The rules. That a context has distinct labels is required where a rule has no premise, and the same of a record's labels at T-Rcd; elsewhere it follows.
 mutual
   pub data Derives : Context → Term → Typ → Dialect → Type 0 where
     t_true : {g : Context} {d : Dialect} → IsWellFormedContext g → Derives g true_term bool d

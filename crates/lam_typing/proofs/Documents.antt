@@ -54,7 +54,7 @@ no_gap (suc n) (written w ∷ outside) (entry ∷ g) d typed is none = no_gap n 
 no_gap (suc n) (of_term e ∷ outside) (entry ∷ g) d typed is none = no_gap n outside g d typed.1 is.1 none
 
 module _ (d : Dialect) where
-  -- where the parts have types and the term is neither excused nor to blame, it has one
+  -- if the parts have types and the term is neither excused nor to blame, it has a type
   by_parts : (s : Scope) (e : Term) → IsWellFormedScope s → IsWellFormedTerm e → ArePartsTyped s e d → (IsExcused s e d → ⊥) → (IsBlamed s e d → ⊥) → IsTyped s e d
   by_parts s e ws we parts unexcused unblamed = by (typed_or_not d s e ws we)
     where
@@ -120,7 +120,7 @@ module _ (d : Dialect) where
     unblamed_fields (term_field l e es) s ts ws we he u =
         (unblamed_typed e s ts ws we.0 he.0 (unblamed_front (places s e) (field_places s es) d u), unblamed_fields es s ts ws we.1 he.1 (unblamed_back (places s e) (field_places s es) d u))
 
--- the other way: each place of a term that has a type has one
+-- the other way: no place of a term that has a type is to blame
 
 typed_by : (s : Scope) (g : Context) (e : Term) (t : Typ) (d : Dialect) → IsContext s g d → Derives g e t d → IsTyped s e d
 typed_by s g e t d is x = (t, (g, is, has_type g e t d x))

@@ -1,4 +1,4 @@
--- What a walk over a whole document has found, where it went through or stopped, is the analysis that was asked for.
+-- What a walk over a whole document has found, whether it finished or stopped, is the analysis that was requested.
 use Rattle.std.proofs.Common.{◌≡◌, ℕ, ◌+◌, ◌<◌, List, [], ◌∷◌, ◌++◌, length, take, get_or, Option, Some, None, zero, suc, ap, refl, sym, subst, ◌∙◌, arith}
 use Rattle.std.proofs.lemmas.List.{take_all, take_at}
 use Rattle.lam_rules.specs.Types.{Typ}
@@ -43,7 +43,7 @@ no_progress w last begins = rw (begins.found, begins.blames)
 outermost : (w : Walk) (last : Option PlaceNumber) (d : Dialect) → Begins w last → IsLowest [] (entries_of w) d
 outermost w last d begins = subst (λ g. IsLowest [] g d) (sym (no_entries w last begins)) (lowest [] [] d tt tt)
 
--- what is shown of these places, all in all
+-- what the walk has found is right for these places, which are the first ones
 Shows : List Place → Walk → Dialect → Type 0
 Shows ps w d = Shown ps 0 (progress_of w).found (progress_of w).blames d
 

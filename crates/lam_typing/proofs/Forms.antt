@@ -1,4 +1,4 @@
--- Form by form: from what a walk found of the parts of a term and the step of its rule, what it is to take down for the term.
+-- Form by form: what a walk records for a term, from what it found for the parts of the term and from the step of its rule.
 use Rattle.std.proofs.Common.{◌≡◌, ◌&&◌, ℕ, ◌<◌, ◌≤◌, List, [], ◌∷◌, ◌++◌, length, Option, Some, None, is_some, Bool, true, false, IsTrue, zero, suc, refl, sym, subst, arith, codes}
 use Rattle.lam_rules.specs.Types.{Label, Typ, bool, nat, unit, Fields, no_fields, field}
 use Rattle.lam_rules.specs.Terms.{Term, true_term, false_term, if_then_else, numeral, succ, pred, is_zero, variable, free, lambda, apply, unit_term, ascribe, let_in, record_term, project, fix, TermFields, no_terms, term_field}
@@ -118,7 +118,7 @@ unbound_ready g n now d le = leaf_ready g (variable n) now None _ d least (λ s 
         let lt = has_no_type_within n excused.0 excused.2 in
         omega arith
 
--- terms with one part that is to blame where the part has a type
+-- terms with one part, which are to blame if the part has a type and they have none
 
 one_ready : (g : Context) (e part : Term) (old mid : Progress) (x o : Option Typ) (code : Text) (d : Dialect)
     → WentOver g part old mid x d

@@ -1,4 +1,4 @@
--- From what the steps of a walk say of it to what they say of types, and back.
+-- From what the steps of a walk say about it to what they say about types, and back.
 use Rattle.std.proofs.Common.{◌≡◌, ◌&&◌, ℕ, ◌<◌, ◌≤◌, List, [], ◌∷◌, ◌++◌, ◌⊎◌, Vec, take, length, string_bytes, String, Option, Some, None, is_some, Bool, true, false, Result, Ok, Err, ap, refl, sym, subst, ◌∙◌, codes, ◌-◌, arith, if◌then◌else◌, inl, inr, append_assoc}
 use Rattle.std.specs.Result.{IsErrAnd}
 use Rattle.std.proofs.lemmas.List.{append-nil, length-append, take_at}
@@ -31,7 +31,7 @@ use Rattle.lam_typing.proofs.Growing.{answer_keep, answers_keep, context_keep, a
 use Rattle.lam_typing.proofs.Together.{went_none, went_both, stopped_front, stopped_behind, stopped_under, IsReady, ready_went, ready_too_large, ready_enough}
 use Rattle.lam_typing.proofs.Forms.{free_ready, unbound_ready, variable_ready, numeric_ready, fix_ready, project_ready, ascribe_ready, lambda_ready, let_ready, apply_ready, if_ready, record_ready}
 
--- the same places, told otherwise
+-- the same for equal places, contexts and states
 
 went_as : (g : Context) (ps qs : Scope → List Place) (old now : Progress) (d : Dialect) → ((s : Scope) → ps s ≡ qs s) → Went g ps old now d → Went g qs old now d
 went_as g ps qs old now d same a = record {
@@ -326,7 +326,7 @@ fields_then (Ok all) w0 w1 w2 l e es found label number before pushed after soun
 fields_then (Err stop) w0 w1 w2 l e es found label number before pushed after sound grows first is more put same_label rest =
     fields_behind stop w0 w1 w2 l e es found sound grows first rest
 
--- the term itself is taken down
+-- the term itself is recorded
 
 pub settled_over : (w0 mid now : Walk) (e : Term) (ps : Scope → List Place) (found : Option TyNo) (blame : Option (Bor Text))
     → ((s : Scope) → ps s ++ record { scope = s; here = e } ∷ [] ≡ places s e)
@@ -367,7 +367,7 @@ settled_stop Stop.TooLarge w0 mid now e ps (Some number) blame split same stands
       stops.2,
     )
 
--- what a step blames a term for, by the numbers
+-- what a step blames a term for, given type ids
 abbrev pub Blames : Bool → Option TyNo → Text → Option (Bor Text) → Type 0
 Blames parts found code blame = (ts : List Typ) (n : ℕ) → blame_at n blame ≡ blame_step n parts (answer ts found) code
 
@@ -380,7 +380,7 @@ ready_at mid g e ps old found parts seen code blame d ready same blames =
     rw (length-answers mid.table mid.found.items, same) (sym (blames mid.table (length mid.found.items))) in
     subst (λ bs. IsReady g e ps old (progress_of mid) (answer mid.table found) bs d) is ready
 
--- the same of what a step answers
+-- the same for the result of a step
 pub settled_walked : (r : Result (Option TyNo) Stop) (w0 mid now : Walk) (e : Term) (ps : Scope → List Place) (found : Option TyNo) (blame : Option (Bor Text))
     → HasSettled r mid now found blame
     → IsReady (entries_of w0) e ps (progress_of w0) (progress_of mid) (answer mid.table found) (blame_at (length mid.found.items) blame) w0.verdicts.dialect
@@ -449,7 +449,7 @@ module _ (w0 w1 : Walk) (e : Term) (x found : Option TyNo) (blame : Option (Bor 
   project_parts l rule blames = ready_at w1 (entries_of w0) (project e l) (λ s. places s e) (progress_of w0) found (is_some x) (is_some (answer w1.table x)) (codes "E4") blame w0.verdicts.dialect
       (project_ready (entries_of w0) e (progress_of w0) (progress_of w1) (answer w1.table x) (answer w1.table found) w0.verdicts.dialect over.over l rule) (some_answer w1.table x) blames
 
-  -- an ascription, whose written type has had its number from before
+  -- an ascription, whose written type already had its number
   pub ascribe_parts : (number : Option TyNo) → StandsWhereFound w0.table number
       → AscribeRule (answer w1.table number) (answer w1.table x) (answer w1.table found) w1.verdicts.dialect → Blames (is_some x && is_some number) found (codes "E7") blame
       → IsReady (entries_of w0) (ascribe e (answer w0.table number)) (λ s. places s e) (progress_of w0) (progress_of w1) (answer w1.table found) (blame_at (length w1.found.items) blame) w0.verdicts.dialect
@@ -464,7 +464,7 @@ module _ (w0 w1 : Walk) (e : Term) (x found : Option TyNo) (blame : Option (Bor 
       (subst (λ b. AscribeRule (answer w1.table number) (answer w1.table x) (answer w1.table found) b) grows.dialect rule)))
       seen blames
 
--- what was found, with its parts told otherwise
+-- the same for an equal context and equal states, type and dialect
 over_as : (g h : Context) (e : Term) (p p' q q' : Progress) (o o' : Option Typ) (d d' : Dialect)
     → g ≡ h → p ≡ p' → q ≡ q' → o ≡ o' → d ≡ d' → WentOver g e p q o d → WentOver h e p' q' o' d'
 over_as g h e p p' q q' o o' d d' a b c f i over = rw (sym a, sym b, sym c, sym f, sym i) over

@@ -1,4 +1,4 @@
--- What numbers answer stays as a table grows, and how answers and entries are put behind others.
+-- What type ids stand for stays the same as a table grows; and what one more id adds to answers and to a context.
 use Rattle.std.proofs.Common.{◌≡◌, ℕ, ◌+◌, ◌-◌, ◌<◌, List, [], ◌∷◌, ◌++◌, length, get_or, Option, Some, None, is_some, zero, suc, ap, refl, arith}
 use Rattle.lam_rules.specs.Types.{Typ}
 use Rattle.lam_rules.specs.Typing.{Context}
@@ -57,7 +57,7 @@ length-under ts g (o ∷ os) = let e = length-under ts (answer ts o ∷ g) os in
 pub length-context : (ts : List Typ) (os : List (Option TyNo)) → length (context_under ts os) ≡ length os
 length-context ts os = let e = length-under ts [] os in omega arith
 
--- the entry that an index finds, and the item that it stands for from the end
+-- the entry at an index, and the item that it is, counted from the end
 
 entry_behind : (ts : List Typ) (g : Context) (os : List (Option TyNo)) (n : ℕ) → entry_at (length os + n) (under_entries ts g os) ≡ entry_at n g
 entry_behind ts g [] n = let e : 0 + n ≡ n = omega arith in rw e

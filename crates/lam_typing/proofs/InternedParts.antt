@@ -26,7 +26,7 @@ use Rattle.lam_typing.proofs.Growing.{answer_keep, stands_keep}
 by_shape : (ts : List Typ) (form : InternedTerm) (n : Numbered) (e : Term) → numbered_of form ≡ n → NumbersStand ts n → term_over ts n ≡ e → IsForm ts form e
 by_shape ts form n e is stand same = record { stand = subst (NumbersStand ts) (sym is) stand; same = ap (term_over ts) is ∙ same }
 
--- a form that is still one
+-- a form still stands for its term when the table has grown
 
 pub form_still : {old now : List Typ} {form : InternedTerm} {e : Term} → Keeps old now → IsForm old form e → IsForm now form e
 form_still {old = old} {now = now} {form = form} keeps is = let k = kept old now form keeps is.stand in record { stand = k.1; same = k.0 ∙ is.same }
@@ -124,7 +124,7 @@ more_forms {now = now} {before = before} l {form = form} keeps is same put rest 
       same = λ i. rules.term_field (same i) (first.same i) (rest.same i);
     }
 
--- what is so of an answer
+-- the same for results
 
 pub form_by : (r : Result InternedTerm AllocError) (ts : List Typ) {e f : Term} → f ≡ e → IfOk r (λ form. IsForm ts form e) → IfOk r (λ form. IsForm ts form f)
 form_by r ts same is = rw same is

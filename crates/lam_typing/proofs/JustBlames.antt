@@ -29,7 +29,7 @@ pub unblamed_by : (o : Option Typ) (s : Scope) (g : Context) (n : ℕ) (d : Dial
 unblamed_by (Some t) s g n d low lt e blamed = blamed.untyped (typed_at s g (variable n) t d low (variable_least g n (Some t) d low.wf e).0)
 unblamed_by None s g n d low lt e blamed = blamed.unexcused (g, low.is_context, no_type_within n g lt (sym e))
 
--- an application is told that its first term is no function only where that has no arrow among its types, and that its argument does not fit only where it has one
+-- an application is reported to have no function only if its first term has no arrow type, and an argument that does not fit only if it has one
 
 codes_differ : codes "E2" ≡ codes "E3" → ⊥
 codes_differ e = numbers_differ (ap (λ (xs : List ℕ). get_or xs 1 0) e) refl refl
@@ -100,7 +100,7 @@ module _ (d : Dialect) where
       let wide = below_arrow p r r r d below (below_refl r d (below_wf r p d below).0) in
       blamed.untyped (typed_at s g.0 (fix e) r d g.1 (t_fix (typed_part s g.0 e (arrow p r) (arrow r r) g.1 least wide)))
 
-  -- of all types of the parts, not of the least alone
+  -- the same for all types of the parts, not only the least
 
   type_in_lowest : (s : Scope) (g : Context) (e : Term) (t : Typ) → IsLowest s g d → IsTypeAt s e t d → Derives g e t d
   type_in_lowest s g e t low is = narrow g is.0 e t d low.wf (low.narrower is.0 is.1) (derives is.0 e t d is.2)
@@ -116,7 +116,7 @@ module _ (d : Dialect) where
   pub fixed_point_reason : (s : Scope) (e : Term) (p : Typ) → IsBlamed s (fix e) d → IsTypeAt s e (arrow p p) d → ⊥
   fixed_point_reason s e p blamed is = blamed.untyped (p, (is.0, is.1, has_type is.0 (fix e) p d (t_fix (derives is.0 e (arrow p p) d is.2))))
 
-  -- the terms of a record have types, and so has it where its labels are distinct
+  -- the terms of a record have types, and so has the record if its labels are distinct
 
   abbrev FieldsOf : Context → TermFields → Type 0
   FieldsOf g es = (fs : Fields) × FieldsDerive g es fs d × AreWellFormed fs × ((l : Label) → IsNoLabelOf l es → IsAbsent l fs)

@@ -26,7 +26,7 @@ module _ {old now : List Typ} (e : InternedTerm) (keeps : Keeps old now) (stand 
   pub still_stopped : (stop : Stop) (w u : Walk) → HasStopped stop w u (interned_term now e) → HasStopped stop w u (interned_term old e)
   still_stopped stop w u stopped = subst (HasStopped stop w u) (kept old now e keeps stand).0 stopped
 
--- so with the terms of a record
+-- the same for the terms of a record
 
 module _ {old now : List Typ} (fs : List InternedField) (keeps : Keeps old now) (stand : StandInTerms old fs) where
   pub fields_still_stand : StandInTerms now fs

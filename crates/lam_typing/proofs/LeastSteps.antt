@@ -223,7 +223,7 @@ more_least g l e es (Some t) (Some fs) o d le les rule =
         let k = of_more g l e es gs d h in
         subst (λ z. EachBelow (field l t fs) z d) (sym k.2) (refl, le.1 k.0 k.3, les.1 k.1 k.4)
 
--- fields that go label by label with others have distinct labels as they do
+-- fields that match others label by label have distinct labels if those have
 absent_each : (l : Label) (fs gs : Fields) (d : Dialect) → EachBelow fs gs d → IsAbsent l gs → IsAbsent l fs
 absent_each l no_fields no_fields d each absent = tt
 absent_each l (field k s fs) (field j t gs) d each absent = (λ e. absent.0 (e ∙ each.0), absent_each l fs gs d each.2 absent.1)

@@ -31,7 +31,7 @@ lambda_unblamed s (Some w) e d blamed = blamed.untyped (typed blamed.parts)
     typed : IsTyped (written (Some w) ∷ s) e d → IsTyped s (lambda (Some w) e) d
     typed (t, is) = in_context t is.0 is.1 (derives is.0 e t d is.2)
 
--- the types of both terms give the let its own
+-- a let has a type if both of its terms have
 pub let_typed : (d : Dialect) (s : Scope) (g : Context) (a b : Term) (o : Option Typ) → IsLowest s g d → LeastIn g a o d → IsTyped s a d → IsTyped (of_term a ∷ s) b d → IsTyped s (let_in a b) d
 let_typed d s g a b None low least ta tb = let x = typed_in s g a d low ta in absurd (least x.0 x.1)
 let_typed d s g a b (Some t) low least ta tb =

@@ -69,7 +69,7 @@ entry_onto found g (x ∷ es) n (suc k) default count = entry_onto found (entry_
 pub entry_of_index : (found : List (Option Typ)) (es : List Source) (n : ℕ) (default : Source) → n < length es → entry_of_source found (get_or es (length es - 1 - n) default) ≡ entry_at n (context_in found es)
 entry_of_index found es n default lt = entry_onto found [] es n (length es - 1 - n) default (omega arith)
 
--- more notes, and more behind them
+-- no notes appended, and notes appended after others
 
 pub more_none : (n : Notes) → NotesMore n n (λ found. []) 0
 more_none n = record {
@@ -182,7 +182,7 @@ popped_items pushed popped now es e n put same count rest =
     front (d ∷ es) e zero is = absurd (omega arith)
     front (d ∷ es) e (suc n) is = ap (λ rest. d ∷ rest) (front es e n (omega arith))
 
--- a let: the notes of its second term, under the entry that is of the first
+-- a let: the notes of its second term, under an entry with the type of the first
 pub let_under : (n0 n1 n2 : Notes) (v u : Vec Source Global) (a b : Term) (first : Place) (second : ℕ)
     → NotesTerm n0 n1 a first.0 → v.items ≡ n1.sources.items ++ TermAt first ∷ []
     → NotesTerm (record n1 { sources = v }) n2 b second → u.items ≡ n1.sources.items

@@ -1,4 +1,4 @@
--- How many nodes a term has, by which walks over it end.
+-- How many nodes a term has: the measure by which walks over it end.
 use Rattle.std.proofs.Common.{ℕ, ◌+◌, []}
 use Rattle.lam_rules.specs.Terms.{Term, if_then_else, succ, pred, is_zero, lambda, apply, ascribe, let_in, record_term, project, fix, TermFields, no_terms, term_field}
 use Rattle.lam_scope.specs.Numbered.{Numbered, NumberedFields, term_over, terms_over}
@@ -22,7 +22,7 @@ abbrev mutual
   size_of_fields no_terms = 0
   size_of_fields (term_field l e es) = 1 + size_of e + size_of_fields es
 
--- of a term over the numbers of a table the same, whatever the table
+-- a term over the numbers of a table has as many, whatever the table
 
 abbrev pub size_in : Numbered → ℕ
 size_in e = size_of (term_over [] e)

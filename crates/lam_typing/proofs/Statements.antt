@@ -1,4 +1,4 @@
--- From statement to statement: what a walk over those that follow finds is found of all.
+-- From statement to statement: what a walk finds for those that follow extends to all statements.
 use Rattle.std.proofs.Common.{◌≡◌, ℕ, List, [], ◌∷◌, ◌++◌, length, map, drop, get_or, Vec, Option, Result, Ok, Err, IfErr, ap, refl, sym, subst, ◌∙◌, ◌+◌, ◌<◌, ◌≤◌}
 use Rattle.std.specs.Result.{IsErrAnd}
 use Rattle.std.proofs.lemmas.List.{drop_all}

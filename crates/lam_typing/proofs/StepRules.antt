@@ -1,4 +1,4 @@
--- What the calls of a table say, as steps of rules.
+-- A projection has no type if the type before the dot has no field with its label.
 use Rattle.std.proofs.Common.{List, Some, None, refl}
 use Rattle.lam_rules.specs.Types.{Label, Typ, bool, nat, unit, top, arrow, record_of}
 use Rattle.lam_rules.specs.Typing.{HasField}

@@ -68,7 +68,7 @@ stopped_under_bound stop {w0 = w0} {w1 = w1} {w2 = w2} w3 {a = a} b {x = x} soun
     (among_from stop (entries_of w2) (entry ∷ entries_of w0) (λ s. places s b) w2 w1 w3 w2.verdicts.dialect d
     (under.entries ∙ ap (λ g. entry ∷ g) (entries_same w0 w1 sound grows.keeps over.entries)) under.progress (under.dialect ∙ grows.dialect) stopped))
 
--- so in the term, whose own place comes behind those of its parts
+-- so it stops in the term, whose own place comes after those of its parts
 pub part_stopped : (r : Result (Option TyNo) Stop) (stop : Stop) (old now : Walk) (e : Term) (ps : Scope → List Place) → IsErrAnd r (λ y. y ≡ stop)
     → HasStoppedAmong stop (entries_of old) ps old now old.verdicts.dialect → ((s : Scope) → ps s ++ record { scope = s; here = e } ∷ [] ≡ places s e) → HasWalked r old now e
 part_stopped r stop old now e ps is stopped split =

@@ -192,7 +192,7 @@ stopped_here g e t now d large least = record {
   };
 }
 
--- it lies behind what is asked for
+-- the term comes after the last place that was requested
 pub stopped_before : (g : Context) (e : Term) (now : Progress) (d : Dialect) → StoppedIn g (λ s. record { scope = s; here = e } ∷ []) now now enough d
 stopped_before g e now d = record {
   found = [];
@@ -212,7 +212,7 @@ stopped_before g e now d = record {
 pub unblamed_here : (n : ℕ) (s : Scope) (e : Term) (d : Dialect) → (IsBlamed s e d → ⊥) → AreBlamed n (record { scope = s; here = e } ∷ []) [] d
 unblamed_here n s e d unblamed = inl (unblamed, refl)
 
--- A term whose parts the walk went over: what is left is to take down its own place.
+-- A term whose parts the walk went over: only the term's own place is left to be recorded.
 pub record IsReady (g : Context) (e : Term) (ps : Scope → List Place) (old mid : Progress) (o : Option Typ) (blames : List Blamed) (d : Dialect) : Type 0 where
   pub went : Went g ps old mid d
   pub least : (s : Scope) → IsLowest s g d → IsLeastAt s e o d

@@ -73,7 +73,7 @@ declared_wf (abbreviates w ∷ ss) zero wf = tt
 declared_wf (states e ∷ ss) zero wf = tt
 declared_wf (s ∷ ss) (suc i) wf = declared_wf ss i wf.1
 
--- an entry that is written, where nothing is known of places
+-- a written entry, without any types found for places
 pub entry_wf : (ss : List Statement) (o : Origin) → AreWellFormedStatements ss → IsWellFormedEntry (entry_from ss [] o)
 entry_wf ss (Lambda p) wf = written_wf (place_numbered ss p.0).here (wf_at (places_of [] ss) p.0 (places_of_wf [] ss tt wf)).1
 entry_wf ss (TermAt p) wf = tt

@@ -1,4 +1,4 @@
--- Entries of a context that is given, held against the entries found.
+-- Entries of a given context, compared with the entries found.
 use Rattle.std.specs.Prelude.{◌≡◌, ℕ, List, get_or, Option, Some, None}
 use Rattle.lam_rules.specs.Subtyping.{IsBelow}
 use Rattle.lam_rules.specs.Types.{Typ}

@@ -75,8 +75,8 @@ pub fn untyped_has_a_cause()
 /// What is reported of a subterm at fault is true: a name has no binder, a condition is not below Bool, an operand not below Nat,
 /// an argument not below the parameter, a term not below what is ascribed, a field is missing, the outcome of a fix's function is
 /// not below its parameter, or a record repeats a label. The least types of its parts show this, and so do all others: what is
-/// reported to be no function has no arrow among its types, what is taken for a function has one, and with no types of its parts
-/// do the rules give the application, projection or fix a type.
+/// reported to be no function has no arrow among its types, what is taken for a function has one, and the rules give the
+/// application, projection or fix no type, whichever types of its parts are taken.
 pub fn blame_is_just()
     ensures a_name { (s : Scope) (n : ℕ) (d : Dialect) → IsWellFormedScope s → n < length s → IsBlamed s (variable n) d → ⊥ }
     ensures a_condition { (s : Scope) (c a b : Term) (t : Typ) (d : Dialect) → IsWellFormedScope s → IsBlamed s (if_then_else c a b) d → IsLeastAt s c (Some t) d → IsBelow t bool d → ⊥ }

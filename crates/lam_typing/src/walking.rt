@@ -1,4 +1,4 @@
-//! The walk over the subterms of a term, each after its own: it finds one type for each from those of its parts.
+//! The walk over the subterms of a term, in post-order: it finds one type for each from those of its parts.
 
 ghost use Rattle.std.specs.Prelude.{◌≡◌, ◌&&◌, ◌++◌, ◌<◌, length, map, IfOk, IfErr, OnOk, IsTrue, IsFalse, ℕ, List, is_some};
 ghost use Rattle.lam_rules.specs.Types.{Typ};

@@ -40,11 +40,11 @@ prefixed_numbers prefix.Succ e = succ e
 prefixed_numbers prefix.Pred e = pred e
 prefixed_numbers prefix.IsZero e = is_zero e
 
--- labelled type ids, if there are any
+-- labeled type ids, if there are any
 abbrev pub items_in : Option (Vec (Bor (List ℕ) × TyNo) Global) → Option (List (Bor (List ℕ) × TyNo))
 items_in = option_map (λ v. v.items)
 
--- the fields of labelled type ids, if there are any
+-- the fields of labeled type ids, if there are any
 abbrev pub given_over : List Typ → Option (List (Bor (List ℕ) × TyNo)) → Option Fields
 given_over ts = option_map (fields_given ts)
 
@@ -53,7 +53,7 @@ abbrev pub GivenStand : List Typ → Option (List (Bor (List ℕ) × TyNo)) → 
 GivenStand ts None = Unit {0}
 GivenStand ts (Some items) = AllStand ts items
 
--- labelled type ids with one more appended
+-- labeled type ids with one more appended
 abbrev pub with_given : Bor (List ℕ) → List (Bor (List ℕ) × TyNo) → TyNo → List (Bor (List ℕ) × TyNo)
 with_given label items number = items ++ (label, number) ∷ []
 

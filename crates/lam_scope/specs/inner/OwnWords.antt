@@ -8,7 +8,7 @@ use Rattle.lam_scope.specs.declared.own_words.Target.{Target}
 use Rattle.lam_scope.specs.declared.own_words.Target.TheVariants as target
 use Rattle.lam_scope.specs.PlacedTerms.{OwnWord, no_word, own_word, is_variable_at, is_projection_at}
 
--- Those of the terms in a term: of its parts, from left to right, and then its own.
+-- The tokens of the terms in a term: those of its parts, from left to right, and then its own.
 abbrev mutual
   pub words_in : TermTree → List OwnWord
   words_in (term_tree r n) = words_below n ++ own_word n ∷ []
