@@ -5,7 +5,7 @@
 //! `intern_command` handle one command by itself.
 //!
 //! Binding: `walk` fills the tables of `rows`, keeping the binders in scope on a stack (`seen`, built on `names` and
-//! `name_stack`); `room` counts the rows first. `use_chains` and `token_lists` collect the uses of each binder, `intervals` and
+//! `name_stack`); `room` estimates the rows first. `use_chains` and `token_lists` collect the uses of each binder, `intervals` and
 //! `row_intervals` make look-ups by byte offset fast; `scopes` queries the tables, `own_words` finds a variable or a projection
 //! by its token, and `renaming` decides whether a binder and its uses can have another name.
 //!

@@ -1,4 +1,4 @@
-//! The binders of names in scope for a term.
+//! The names of the binders in scope for a term.
 ghost use Rattle.std.specs.Prelude.{◌≡◌, ◌∷◌, [], IfOk, OnOk, OnErr};
 ghost use Rattle.lam_syntax.specs.Letters.{letters};
 ghost use Rattle.std.specs.Option.{option_map};

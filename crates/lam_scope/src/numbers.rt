@@ -1,4 +1,4 @@
-//! The indices that identify subterms and binders.
+//! The indices that identify subterms and binders, and where a binder takes its type from.
 
 /// A subterm of a document's commands, by its zero-based index: parts come from left to right, and each term after its parts.
 #[derive(Clone, Copy, Debug, PartialEq, Eq)]

@@ -1,4 +1,4 @@
-//! Whether a given context may be one of a scope.
+//! Whether a context entry fits a binder.
 ghost use Rattle.std.specs.Prelude.{◌↔◌, IsTrue, IfOk};
 ghost use Rattle.lam_rules.specs.Subtyping.{IsBelow};
 ghost use Rattle.lam_rules.specs.TermViews.{written_of};

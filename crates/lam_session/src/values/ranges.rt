@@ -1,4 +1,4 @@
-//! Positions in a text as JSON values (LSP 3.17, `Position`, `Range` and `Location`).
+//! Ranges of spans, and positions as JSON values (LSP 3.17, `Position`, `Range` and `Location`).
 ghost use Rattle.std.specs.Prelude.{◌≡◌, map, All, IfOk};
 ghost use Rattle.serde_json.specs.View.{view};
 ghost use Rattle.lam_query.specs.Within.{IsSpanOfText};
