@@ -2,12 +2,12 @@
 use Rattle.std.proofs.Common.{◌≡◌, Some, None, Result, Ok, Err, eqb, ℕ, ◌+◌, ◌<◌, ◌≤◌, zero, suc, List, [], ◌∷◌, ◌++◌, length, get_or, map, take, true, not, ◌&&◌, refl, sym, ap, subst, ◌∙◌, arith, true≢false}
 use Rattle.std.specs.List.{All}
 use Rattle.std.proofs.lemmas.List.{take_more, take_all, map-append}
-use Rattle.std.proofs.lemmas.List.Elements.{All-head, All-push, All-same, All-tail}
+use Rattle.std.proofs.lemmas.List.Elements.{All-push, All-same}
 use Rattle.std.proofs.lemmas.Simd.{map-map}
 use Rattle.std.specs.Str.{IsUtf8}
 use Rattle.std.specs.Option.{option_and_then}
 use Rattle.std.proofs.lemmas.Bool.{eq-eqb}
-use Rattle.serde_json.specs.Data.{Data, string, array, object, member, no_members, item, no_items}
+use Rattle.serde_json.specs.Data.{Data, array, object, member, no_members, item, no_items}
 use Rattle.serde_json.specs.Find.{as_array, as_number, as_u64}
 use Rattle.serde_json.specs.View.{view, items_of, items_view}
 use Rattle.serde_json.specs.declared.value.Value.{Value}

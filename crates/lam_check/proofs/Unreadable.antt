@@ -1,5 +1,5 @@
 -- Why values are not read: a right reason rules out a readable derivation.
-use Rattle.std.proofs.Common.{◌≡◌, ◌<◌, ◌+◌, ◌≤◌, inl, inr, codes, ℕ, List, [], ◌∷◌, ◌++◌, length, get_or, map, take, zero, suc, Option, Some, None, refl, sym, ap, subst, ◌∙◌, arith}
+use Rattle.std.proofs.Common.{◌≡◌, ◌<◌, inl, inr, codes, ℕ, List, [], ◌∷◌, ◌++◌, length, get_or, map, take, zero, suc, Option, Some, None, refl, sym, ap, subst, ◌∙◌, arith}
 use Rattle.std.specs.List.{All}
 use Rattle.std.specs.Option.{IfSome}
 use Rattle.std.proofs.lemmas.List.{map-append, length-map, length-take-le}
