@@ -2,10 +2,10 @@
 """edits.py [PROGRAM ..] [--checker PROGRAM] [--count N] [--seed N]: makes random edits in random documents, and compares what the built program answers about
 the document that was edited with what it answers about the same text opened anew.
 
-After each edit the text is opened as a second document of the session, which is closed again, and after some edits in a process of its own.
-Compared are the published diagnostics and, at two places, the type, the derivation, the definition, the references, a rename and the
-completions, byte for byte. Derivations with columns in UTF-16 are verified against their text by `lam_check --verify`. Sessions are in both dialects and the three encodings; bench/texts_at_random.py makes the documents. The same
-seed makes the same edits.
+After each edit the text is opened as a second document of the session, which is closed again, and after some edits in a process of its
+own. Compared are the published diagnostics and, at two places, the type, the derivation, the definition, the references, a rename and
+the completions, byte for byte. Derivations with columns in UTF-16 are verified against their text by `lam_check --verify`. Sessions
+are in both dialects and the three encodings; bench/texts_at_random.py makes the documents. The same seed makes the same edits.
 
 At the first difference the text before, the edit and both answers are printed. A session counts once. The last line is
 'N passed, M failed'.
