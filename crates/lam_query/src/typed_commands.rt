@@ -58,17 +58,14 @@ pub(crate) fn found_of(
         Err(ScopeFault::TooLarge(span)) => return Ok(Found::LargeWrittenType(span)),
         Err(ScopeFault::Memory) => return Err(AllocError),
     };
-    let checked = types.check(stated.entries, &stated.statement)?;
+    let checked = types.check(&stated.entries, &stated.statement)?;
     if !checked.complete {
         let span = span_of_term(alloc, command, checked.types.len())?;
         return Ok(Found::LargeTerm(span));
     }
     let faults = faults_of(alloc, command, &stated.faults, &checked.blames)?;
-    let mut types = checked.types;
-    // Each command has such a list, as long as its row is kept.
-    types.shrink_to_fit();
     Ok(Found::Types(FoundTypes {
-        types,
+        types: checked.types,
         faults,
         bound: bound_number(&stated.statement, checked.entry),
     }))

@@ -137,7 +137,7 @@ fn found_of<'a>(
     ensures entry { IfOk result (λ found. StandsIfAny (types_in checker.new) found.1.entry) }
 {
     let Interned { statement, faults } = interned(alloc, checker, environment, command)?;
-    let checked = checker.check(entries, &statement)?;
+    let checked = checker.check(&entries, &statement)?;
     Ok((faults, checked))
 }
 

@@ -17,7 +17,7 @@ use Rattle.lam_typing.specs.inner.Ends.{Begins, AreSourcesOf, Completes, IsEndOf
 use Rattle.lam_typing.specs.declared.noting.Source.{Source}
 use Rattle.lam_typing.specs.declared.fault.TypingFault.{TypingFault}
 use Rattle.lam_typing.specs.declared.typing.Typing.{Typing}
-use Rattle.lam_typing.specs.declared.walking.Walk.{Walk}
+use Rattle.lam_typing.specs.declared.checker.TypeChecker.{TypeChecker}
 use Rattle.lam_typing.specs.declared.walking.Stop.{Stop}
 use Rattle.lam_typing.proofs.Growing.{answers_keep}
 use Rattle.lam_typing.proofs.Glue.{progress_same, retabled_grows}
@@ -26,10 +26,10 @@ use Rattle.lam_typing.proofs.Finishing.{HasWalked, analysed, stopped_behind_last
 
 -- the analysis, by the later table
 
-has_walked : (w : Walk) (ss : List Statement) (origins : List Origin) (t : Typing) → Completes w ss origins t → HasWalked (record w { table = t.table }) t
+has_walked : (w : TypeChecker) (ss : List Statement) (origins : List Origin) (t : Typing) → Completes w ss origins t → HasWalked (record w { table = t.table }) t
 has_walked w ss origins t completes = record { table = refl; found = completes.found; blames = completes.blames }
 
-pub analysis_of_all : (w0 w : Walk) (last : Option PlaceNumber) (ss : List Statement) (origins : List Origin) (t : Typing) (d : Dialect) → Begins w0 last → Grows w0 w
+pub analysis_of_all : (w0 w : TypeChecker) (last : Option PlaceNumber) (ss : List Statement) (origins : List Origin) (t : Typing) (d : Dialect) → Begins w0 last → Grows w0 w
     → Went (entries_of w0) (λ s. places_of s ss) (progress_of w0) (progress_of w) d → Completes w ss origins t → IsAnalysis (up_to last (places_of [] ss)) t d
 analysis_of_all w0 w last ss origins t d begins grows went completes =
     let now = t.table in
@@ -38,7 +38,7 @@ analysis_of_all w0 w last ss origins t d begins grows went completes =
     analysed w0 (record w { table = now }) last ss t d begins (retabled_grows grows keeps)
     (subst (λ p. Went (entries_of w0) (λ s. places_of s ss) (progress_of w0) p d) (sym same) went) (has_walked w ss origins t completes)
 
-pub analysis_of_some : (w0 w : Walk) (last : Option PlaceNumber) (ss : List Statement) (origins : List Origin) (t : Typing) (d : Dialect) → Begins w0 last → Grows w0 w
+pub analysis_of_some : (w0 w : TypeChecker) (last : Option PlaceNumber) (ss : List Statement) (origins : List Origin) (t : Typing) (d : Dialect) → Begins w0 last → Grows w0 w
     → HasStoppedAmong Stop.Enough (entries_of w0) (λ s. places_of s ss) w0 w d → Completes w ss origins t → IsAnalysis (up_to last (places_of [] ss)) t d
 analysis_of_some w0 w last ss origins t d begins grows stopped completes =
     let now = t.table in
@@ -85,7 +85,7 @@ least_told ss t (TermAt p) least among = least p.0 among
 least_told ss t (Declaration i) least among = refl
 least_told ss t TypeName least among = refl
 
-pub entries_of_typing : (w : Walk) (ss : List Statement) (origins : List Origin) (t : Typing) → IsSoundWalk w → IsTypingOf ss t → Completes w ss origins t → AreEntries ss origins t
+pub entries_of_typing : (w : TypeChecker) (ss : List Statement) (origins : List Origin) (t : Typing) → IsSoundWalk w → IsTypingOf ss t → Completes w ss origins t → AreEntries ss origins t
 entries_of_typing w ss origins t sound typing completes =
     let same : found_of t ≡ answers w.table w.found.items = ap (λ os. answers t.table os) completes.found ∙ answers_keep w.table t.table w.found.items completes.keeps sound.found in
     record {
@@ -102,7 +102,7 @@ pub record Answer (ss : List Statement) (origins : List Origin) (last : Option P
   pub dialect : IfOk r (λ t. dialect_of t ≡ d)
   pub fault : IfErr r (λ fault. IsFaultOf fault (up_to last (places_of [] ss)) d)
 
-answer_ok : (w : Walk) (last : Option PlaceNumber) (ss : List Statement) (origins : List Origin) (t : Typing) (d : Dialect) → IsSoundWalk w → w.verdicts.dialect ≡ d
+answer_ok : (w : TypeChecker) (last : Option PlaceNumber) (ss : List Statement) (origins : List Origin) (t : Typing) (d : Dialect) → IsSoundWalk w → w.verdicts.dialect ≡ d
     → IsAnalysis (up_to last (places_of [] ss)) t d → Completes w ss origins t → Answer ss origins last (Ok t) d
 answer_ok w last ss origins t d sound same analysis completes =
     let is : dialect_of t ≡ d = completes.dialect ∙ same in
@@ -110,19 +110,19 @@ answer_ok w last ss origins t d sound same analysis completes =
     record { analysis = analysis; of = typing; entries = entries_of_typing w ss origins t sound typing completes; dialect = is; fault = tt }
 
 -- the result for these sources, whatever document they are of
-pub told_ok : (r : Result Typing TypingFault) (w : Walk) (ss : List Statement) (origins : List Origin) (sources : List (Option Source)) → AreSourcesOf ss origins sources
+pub told_ok : (r : Result Typing TypingFault) (w : TypeChecker) (ss : List Statement) (origins : List Origin) (sources : List (Option Source)) → AreSourcesOf ss origins sources
     → IfOk r (λ t. (all : List Statement) (every : List Origin) → AreSourcesOf all every sources → Completes w all every t) → IfOk r (λ t. Completes w ss origins t)
 told_ok (Ok t) w ss origins sources are completes = completes ss origins are
 told_ok (Err fault) w ss origins sources are completes = tt
 
 -- the result if all that was requested was found
-pub end_enough : (stop : Stop) (r : Result Typing TypingFault) (w : Walk) (sources : List (Option Source)) → stop ≡ Stop.Enough
+pub end_enough : (stop : Stop) (r : Result Typing TypingFault) (w : TypeChecker) (sources : List (Option Source)) → stop ≡ Stop.Enough
     → IfOk r (λ t. (all : List Statement) (every : List Origin) → AreSourcesOf all every sources → Completes w all every t) → IfErr r (λ fault. fault ≡ TypingFault.Memory)
     → (ss : List Statement) (origins : List Origin) → AreSourcesOf ss origins sources → IsEndOf stop w ss origins r
 end_enough stop (Ok t) w sources is completes memory ss origins are = subst (λ s. IsEndOf s w ss origins (Ok t)) (sym is) (completes ss origins are)
 end_enough stop (Err fault) w sources is completes memory ss origins are = rw (is, memory) tt
 
-pub went_through : (w0 w : Walk) (last : Option PlaceNumber) (ss : List Statement) (origins : List Origin) (r : Result Typing TypingFault) (d : Dialect) → Begins w0 last → w0.verdicts.dialect ≡ d → Grows w0 w
+pub went_through : (w0 w : TypeChecker) (last : Option PlaceNumber) (ss : List Statement) (origins : List Origin) (r : Result Typing TypingFault) (d : Dialect) → Begins w0 last → w0.verdicts.dialect ≡ d → Grows w0 w
     → Went (entries_of w0) (λ s. places_of s ss) (progress_of w0) (progress_of w) w0.verdicts.dialect
     → IfOk r (λ t. Completes w ss origins t) → IfErr r (λ fault. fault ≡ TypingFault.Memory) → Answer ss origins last r d
 went_through w0 w last ss origins (Ok t) d begins is grows went completes memory =
@@ -133,7 +133,7 @@ went_through w0 w last ss origins (Err fault) d begins is grows went completes m
 answer_memory : (last : Option PlaceNumber) (ss : List Statement) (origins : List Origin) (d : Dialect) → Answer ss origins last (Err TypingFault.Memory) d
 answer_memory last ss origins d = record { analysis = tt; of = tt; entries = tt; dialect = tt; fault = tt }
 
-pub ended : (stop : Stop) (w0 w : Walk) (last : Option PlaceNumber) (ss : List Statement) (origins : List Origin) (r : Result Typing TypingFault) (d : Dialect) → Begins w0 last → w0.verdicts.dialect ≡ d → Grows w0 w
+pub ended : (stop : Stop) (w0 w : TypeChecker) (last : Option PlaceNumber) (ss : List Statement) (origins : List Origin) (r : Result Typing TypingFault) (d : Dialect) → Begins w0 last → w0.verdicts.dialect ≡ d → Grows w0 w
     → HasStoppedAmong stop (entries_of w0) (λ s. places_of s ss) w0 w w0.verdicts.dialect → IsEndOf stop w ss origins r → Answer ss origins last r d
 ended Stop.Enough w0 w last ss origins (Ok t) d begins is grows stopped end =
     rw (sym is) (answer_ok w last ss origins t w0.verdicts.dialect grows.sound grows.dialect (analysis_of_some w0 w last ss origins t w0.verdicts.dialect begins grows stopped end) end)

@@ -14,7 +14,7 @@ use Rattle.lam_typing.specs.Walk.{blames_of, entries_of, progress_of, Grows, IsB
 use Rattle.lam_typing.specs.Typings.{found_of, IsAnalysis}
 use Rattle.lam_typing.specs.inner.Ends.{up_to, Begins}
 use Rattle.lam_typing.specs.declared.typing.Typing.{Typing}
-use Rattle.lam_typing.specs.declared.walking.Walk.{Walk}
+use Rattle.lam_typing.specs.declared.checker.TypeChecker.{TypeChecker}
 use Rattle.lam_typing.specs.declared.walking.Stop.{Stop}
 use Rattle.lam_typing.proofs.LeastIn.{lowest}
 use Rattle.lam_typing.proofs.Growing.{length-answers}
@@ -34,20 +34,20 @@ first_in_front (p ∷ ps) zero (suc m) d lt first = first
 first_in_front (p ∷ ps) (suc n) (suc m) d lt first = (first.0, first.1, first.2, first_in_front ps n m d (omega arith) first.3)
 
 -- at the beginning there is one scope and one context, of no binders
-no_entries : (w : Walk) (last : Option PlaceNumber) → Begins w last → entries_of w ≡ []
+no_entries : (w : TypeChecker) (last : Option PlaceNumber) → Begins w last → entries_of w ≡ []
 no_entries w last begins = rw begins.entries
 
-no_progress : (w : Walk) (last : Option PlaceNumber) → Begins w last → progress_of w ≡ record { found = []; blames = [] }
+no_progress : (w : TypeChecker) (last : Option PlaceNumber) → Begins w last → progress_of w ≡ record { found = []; blames = [] }
 no_progress w last begins = rw (begins.found, begins.blames)
 
-outermost : (w : Walk) (last : Option PlaceNumber) (d : Dialect) → Begins w last → IsLowest [] (entries_of w) d
+outermost : (w : TypeChecker) (last : Option PlaceNumber) (d : Dialect) → Begins w last → IsLowest [] (entries_of w) d
 outermost w last d begins = subst (λ g. IsLowest [] g d) (sym (no_entries w last begins)) (lowest [] [] d tt tt)
 
 -- what the walk has found is right for these places, which are the first ones
-Shows : List Place → Walk → Dialect → Type 0
+Shows : List Place → TypeChecker → Dialect → Type 0
 Shows ps w d = Shown ps 0 (progress_of w).found (progress_of w).blames d
 
-shows_all : (w0 w : Walk) (last : Option PlaceNumber) (ps : List Place) (found : List (Option Typ)) (blames : List Blamed) (d : Dialect) → Begins w0 last
+shows_all : (w0 w : TypeChecker) (last : Option PlaceNumber) (ps : List Place) (found : List (Option Typ)) (blames : List Blamed) (d : Dialect) → Begins w0 last
     → (progress_of w).found ≡ (progress_of w0).found ++ found → (progress_of w).blames ≡ (progress_of w0).blames ++ blames
     → Shown ps (length (progress_of w0).found) found blames d → Shows ps w d
 unfolding Shows
@@ -59,12 +59,12 @@ shows_all w0 w last ps found blames d begins found_is blames_are shown =
     rw (f, b) (subst (λ m. Shown ps m found blames d) n shown)
 
 -- the typing has what the walk found
-pub record HasWalked (w : Walk) (t : Typing) : Type 0 where
+pub record HasWalked (w : TypeChecker) (t : Typing) : Type 0 where
   pub table : t.table ≡ w.table
   pub found : t.found.items ≡ w.found.items
   pub blames : t.blames.items ≡ w.blames.items
 
-analysis : (ps : List Place) (w : Walk) (t : Typing) (d : Dialect) → HasWalked w t → Shows ps w d → IsAnalysis ps t d
+analysis : (ps : List Place) (w : TypeChecker) (t : Typing) (d : Dialect) → HasWalked w t → Shows ps w d → IsAnalysis ps t d
 unfolding Shows
 analysis ps w t d has shows = record {
   least = subst (λ os. AreLeast ps os d) (sym found_is) shows.least;
@@ -75,7 +75,7 @@ analysis ps w t d has shows = record {
     found_is : found_of t ≡ (progress_of w).found
     found_is = λ i. answers (has.table i) (has.found i)
 
-found_length : (ps : List Place) (w : Walk) (d : Dialect) → Shows ps w d → length ps ≡ length w.found.items
+found_length : (ps : List Place) (w : TypeChecker) (d : Dialect) → Shows ps w d → length ps ≡ length w.found.items
 unfolding Shows
 found_length ps w d shows = least_length ps (progress_of w).found d shows.least ∙ length-answers w.table w.found.items
 
@@ -87,14 +87,14 @@ front_of : (last : Option PlaceNumber) (ps qs : List Place) (n : ℕ) → length
 front_of None ps qs n count within behind = absurd behind
 front_of (Some last) ps qs n count within behind = take_at ps qs (last.0 + 1) (omega arith)
 
-next_first : (front rest : List Place) (w : Walk) (d : Dialect) → Shows front w d → NextIs next_is_too_large rest d → IsFirstTooLarge (front ++ rest) (length w.found.items) d
+next_first : (front rest : List Place) (w : TypeChecker) (d : Dialect) → Shows front w d → NextIs next_is_too_large rest d → IsFirstTooLarge (front ++ rest) (length w.found.items) d
 unfolding Shows
 next_first front [] w d shows next = absurd next
 next_first front (q ∷ rest) w d shows next =
     subst (λ n. IsFirstTooLarge (front ++ q ∷ rest) n d) (length-answers w.table w.found.items) (first_behind front rest (progress_of w).found q d shows.least shows.small next)
 
 -- it went through
-pub analysed : (w0 w : Walk) (last : Option PlaceNumber) (statements : List Statement) (t : Typing) (d : Dialect) → Begins w0 last → Grows w0 w
+pub analysed : (w0 w : TypeChecker) (last : Option PlaceNumber) (statements : List Statement) (t : Typing) (d : Dialect) → Begins w0 last → Grows w0 w
     → Went (entries_of w0) (λ s. places_of s statements) (progress_of w0) (progress_of w) d → HasWalked w t
     → IsAnalysis (up_to last (places_of [] statements)) t d
 analysed w0 w last statements t d begins grows went has =
@@ -106,7 +106,7 @@ analysed w0 w last statements t d begins grows went has =
     (analysis ps w t d has shows)
 
 -- it stopped behind the last place that was asked for
-pub stopped_behind_last : (w0 w : Walk) (last : Option PlaceNumber) (statements : List Statement) (t : Typing) (d : Dialect) → Begins w0 last → Grows w0 w
+pub stopped_behind_last : (w0 w : TypeChecker) (last : Option PlaceNumber) (statements : List Statement) (t : Typing) (d : Dialect) → Begins w0 last → Grows w0 w
     → HasStoppedAmong Stop.Enough (entries_of w0) (λ s. places_of s statements) w0 w d → HasWalked w t → IsAnalysis (up_to last (places_of [] statements)) t d
 stopped_behind_last w0 w last statements t d begins grows stopped has =
     let h = stopped.0.shown [] (outermost w0 last d begins) in
@@ -118,7 +118,7 @@ stopped_behind_last w0 w last statements t d begins grows stopped has =
     subst (λ qs. IsAnalysis qs t d) (sym asked) (analysis h.front w t d has shows)
 
 -- it stopped at a place that is too large
-pub stopped_at_large : (w0 w : Walk) (last : Option PlaceNumber) (statements : List Statement) (d : Dialect) → Begins w0 last → Grows w0 w
+pub stopped_at_large : (w0 w : TypeChecker) (last : Option PlaceNumber) (statements : List Statement) (d : Dialect) → Begins w0 last → Grows w0 w
     → HasStoppedAmong Stop.TooLarge (entries_of w0) (λ s. places_of s statements) w0 w d → IsFirstTooLarge (up_to last (places_of [] statements)) (length w.found.items) d
 stopped_at_large w0 w last statements d begins grows stopped =
     let h = stopped.0.shown [] (outermost w0 last d begins) in

@@ -24,7 +24,7 @@ use Rattle.lam_typing.specs.Answers.{answer, answers, StandsWhereFound, AllStand
 use Rattle.lam_typing.specs.Progress.{IsLowest, Progress, Went, WentOver, Cause, next_is_too_large, enough, StoppedIn, AreFieldsAt, blame_step, IsApplicationCode, if_all}
 use Rattle.lam_typing.specs.Walk.{blamed_of, blames_of, progress_of, entries_of, IsSoundWalk, Grows, WalkedOver, HasStoppedAmong, HasStopped, HasStoppedInFields, FieldsWalked, HasWalked, HasWalkedFields, blame_at, Settles, StopsAt, HasSettled, IsUpTo, IsWithin}
 use Rattle.lam_typing.specs.inner.Steps.{entry_at, IsNumeric, NatRule, LambdaRule, ApplyRule, AscribeRule, LetRule, IfRule, FixRule, ProjectRule, MoreRule, RecordRule}
-use Rattle.lam_typing.specs.declared.walking.Walk.{Walk}
+use Rattle.lam_typing.specs.declared.checker.TypeChecker.{TypeChecker}
 use Rattle.lam_typing.specs.declared.blame.Blame.{Blame}
 use Rattle.lam_typing.specs.declared.walking.Stop.{Stop}
 use Rattle.lam_typing.proofs.Growing.{answer_keep, answers_keep, context_keep, answers-push, length-answers, length-context, context-push, all_stand_keep, all_stand_push, some_answer}
@@ -56,50 +56,50 @@ stopped_as g ps qs old now cause d same a = record {
 
 -- growth
 
-pub grows_trans : {a b c : Walk} → Grows a b → Grows b c → Grows a c
+pub grows_trans : {a b c : TypeChecker} → Grows a b → Grows b c → Grows a c
 grows_trans {a = a} {b = b} {c = c} p q = record { sound = q.sound; keeps = keeps_trans a.table b.table c.table p.keeps q.keeps; dialect = q.dialect ∙ p.dialect; last = q.last ∙ p.last }
 
-pub entries_same : (old now : Walk) → IsSoundWalk old → Keeps old.table now.table → now.entries.items ≡ old.entries.items → entries_of now ≡ entries_of old
+pub entries_same : (old now : TypeChecker) → IsSoundWalk old → Keeps old.table now.table → now.entries.items ≡ old.entries.items → entries_of now ≡ entries_of old
 entries_same old now sound keeps same = ap (λ os. context_under now.table os) same ∙ context_keep old.table now.table old.entries.items keeps sound.entries
 
-pub progress_same : (old now : Walk) → IsSoundWalk old → Keeps old.table now.table → now.found.items ≡ old.found.items → now.blames.items ≡ old.blames.items → progress_of now ≡ progress_of old
+pub progress_same : (old now : TypeChecker) → IsSoundWalk old → Keeps old.table now.table → now.found.items ≡ old.found.items → now.blames.items ≡ old.blames.items → progress_of now ≡ progress_of old
 progress_same old now sound keeps found blames =
     let f : answers now.table now.found.items ≡ answers old.table old.found.items = ap (λ os. answers now.table os) found ∙ answers_keep old.table now.table old.found.items keeps sound.found in
     let b : blames_of now.blames.items ≡ blames_of old.blames.items = ap blames_of blames in
     rw (f, b)
 
 -- what was found under the entries and in the dialect of an earlier walk, by a later table
-pub over_at : (w0 w1 : Walk) (t : List Typ) (g : Context) (e : Term) (x : Option TyNo) (d : Dialect)
+pub over_at : (w0 w1 : TypeChecker) (t : List Typ) (g : Context) (e : Term) (x : Option TyNo) (d : Dialect)
     → WalkedOver w0 w1 e x → entries_of w0 ≡ g → w0.verdicts.dialect ≡ d → Keeps w1.table t → WentOver g e (progress_of w0) (progress_of w1) (answer t x) d
 over_at w0 w1 t g e x d over same is keeps = rw (sym same, sym is, answer_keep w1.table t x keeps over.stands) over.over
 
 -- a stop in a part
 
-pub among_front : (stop : Stop) (g : Context) (ps qs : Scope → List Place) (old now : Walk) (d : Dialect)
+pub among_front : (stop : Stop) (g : Context) (ps qs : Scope → List Place) (old now : TypeChecker) (d : Dialect)
     → HasStoppedAmong stop g ps old now d → HasStoppedAmong stop g (λ s. ps s ++ qs s) old now d
 among_front Stop.TooLarge g ps qs old now d h = (stopped_front g ps qs (progress_of old) (progress_of now) next_is_too_large d h.0, h.1)
 among_front Stop.Enough g ps qs old now d h = (stopped_front g ps qs (progress_of old) (progress_of now) enough d h.0, h.1)
 among_front Stop.Memory g ps qs old now d h = tt
 
-pub among_as : (stop : Stop) (g : Context) (ps qs : Scope → List Place) (old now : Walk) (d : Dialect) → ((s : Scope) → ps s ≡ qs s)
+pub among_as : (stop : Stop) (g : Context) (ps qs : Scope → List Place) (old now : TypeChecker) (d : Dialect) → ((s : Scope) → ps s ≡ qs s)
     → HasStoppedAmong stop g ps old now d → HasStoppedAmong stop g qs old now d
 among_as Stop.TooLarge g ps qs old now d same h = (stopped_as g ps qs (progress_of old) (progress_of now) next_is_too_large d same h.0, h.1)
 among_as Stop.Enough g ps qs old now d same h = (stopped_as g ps qs (progress_of old) (progress_of now) enough d same h.0, h.1)
 among_as Stop.Memory g ps qs old now d same h = tt
 
-pub among_behind : (stop : Stop) (g : Context) (ps qs : Scope → List Place) (old mid now : Walk) (d : Dialect)
+pub among_behind : (stop : Stop) (g : Context) (ps qs : Scope → List Place) (old mid now : TypeChecker) (d : Dialect)
     → Went g ps (progress_of old) (progress_of mid) d → HasStoppedAmong stop g qs mid now d → HasStoppedAmong stop g (λ s. ps s ++ qs s) old now d
 among_behind Stop.TooLarge g ps qs old mid now d went h = (stopped_behind g ps qs (progress_of old) (progress_of mid) (progress_of now) next_is_too_large d went h.0, h.1)
 among_behind Stop.Enough g ps qs old mid now d went h = (stopped_behind g ps qs (progress_of old) (progress_of mid) (progress_of now) enough d went h.0, h.1)
 among_behind Stop.Memory g ps qs old mid now d went h = tt
 
-pub among_under : (stop : Stop) (b : Binding) (entry : Option Typ) (g : Context) (ps : Scope → List Place) (old now : Walk) (d : Dialect)
+pub among_under : (stop : Stop) (b : Binding) (entry : Option Typ) (g : Context) (ps : Scope → List Place) (old now : TypeChecker) (d : Dialect)
     → ((s : Scope) → IsLowest s g d → IsLowest (b ∷ s) (entry ∷ g) d) → HasStoppedAmong stop (entry ∷ g) ps old now d → HasStoppedAmong stop g (λ s. ps (b ∷ s)) old now d
 among_under Stop.TooLarge b entry g ps old now d lower h = (stopped_under b entry g ps (progress_of old) (progress_of now) next_is_too_large d lower h.0, h.1)
 among_under Stop.Enough b entry g ps old now d lower h = (stopped_under b entry g ps (progress_of old) (progress_of now) enough d lower h.0, h.1)
 among_under Stop.Memory b entry g ps old now d lower h = tt
 
-pub among_from : (stop : Stop) (g h : Context) (ps : Scope → List Place) (old other now : Walk) (d e : Dialect)
+pub among_from : (stop : Stop) (g h : Context) (ps : Scope → List Place) (old other now : TypeChecker) (d e : Dialect)
     → g ≡ h → progress_of old ≡ progress_of other → d ≡ e → HasStoppedAmong stop g ps old now d → HasStoppedAmong stop h ps other now e
 among_from Stop.TooLarge g h ps old other now d e same from is stopped = (rw (sym same, sym from, sym is) stopped.0, stopped.1)
 among_from Stop.Enough g h ps old other now d e same from is stopped = (rw (sym same, sym from, sym is) stopped.0, stopped.1)
@@ -107,10 +107,10 @@ among_from Stop.Memory g h ps old other now d e same from is stopped = tt
 
 -- the table, what is known of it, the entries and what was found may change one by one
 
-abbrev pub stepped : Walk → List Typ → Verdicts → Walk
+abbrev pub stepped : TypeChecker → List Typ → Verdicts → TypeChecker
 stepped w t v = record w { table = t; verdicts = v }
 
-sound_with : (w now : Walk) → IsSoundWalk w → Keeps w.table now.table → AllStandIn now.table now.entries.items → AllStandIn now.table now.found.items → AreRight now.table now.verdicts → IsWithin now.last (length now.found.items) → now.leaves ≡ w.leaves → IsSoundWalk now
+sound_with : (w now : TypeChecker) → IsSoundWalk w → Keeps w.table now.table → AllStandIn now.table now.entries.items → AllStandIn now.table now.found.items → AreRight now.table now.verdicts → IsWithin now.last (length now.found.items) → now.leaves ≡ w.leaves → IsSoundWalk now
 sound_with w now sound keeps entries found right room same = record {
   entries = entries;
   found = found;
@@ -121,10 +121,10 @@ sound_with w now sound keeps entries found right room same = record {
   room = room;
 }
 
-pub grows_same : {w : Walk} → IsSoundWalk w → Grows w w
+pub grows_same : {w : TypeChecker} → IsSoundWalk w → Grows w w
 grows_same {w = w} sound = record { sound = sound; keeps = keeps_same w.table; dialect = refl; last = refl }
 
-pub stepped_grows : {w0 w : Walk} {t : List Typ} {v : Verdicts} → Grows w0 w → Keeps w.table t → AreRight t v → v.dialect ≡ w.verdicts.dialect → Grows w0 (stepped w t v)
+pub stepped_grows : {w0 w : TypeChecker} {t : List Typ} {v : Verdicts} → Grows w0 w → Keeps w.table t → AreRight t v → v.dialect ≡ w.verdicts.dialect → Grows w0 (stepped w t v)
 stepped_grows {w0 = w0} {w = w} {t = t} {v = v} grows keeps right same = record {
   sound = sound_with w (stepped w t v) grows.sound keeps
       (all_stand_keep w.table t w.entries.items keeps grows.sound.entries) (all_stand_keep w.table t w.found.items keeps grows.sound.found) right grows.sound.room refl;
@@ -133,14 +133,14 @@ stepped_grows {w0 = w0} {w = w} {t = t} {v = v} grows keeps right same = record 
   last = grows.last;
 }
 
-pub retabled_grows : {w0 w : Walk} {t : List Typ} → Grows w0 w → Keeps w.table t → Grows w0 (record w { table = t })
+pub retabled_grows : {w0 w : TypeChecker} {t : List Typ} → Grows w0 w → Keeps w.table t → Grows w0 (record w { table = t })
 retabled_grows {w = w} {t = t} grows keeps = stepped_grows grows keeps (right_kept w.table t w.verdicts keeps grows.sound.verdicts) refl
 
 pub put_or_not : {A : Type 0} (b : Bool) (v xs ys : A) → v ≡ (if b then xs else ys) → (v ≡ xs) ⊎ (v ≡ ys)
 put_or_not true v xs ys e = inl e
 put_or_not false v xs ys e = inr e
 
-pub pushed_grows : {w : Walk} {t : List Typ} (v : Vec (Option TyNo) Global) (o : Option TyNo) → IsSoundWalk w → Keeps w.table t
+pub pushed_grows : {w : TypeChecker} {t : List Typ} (v : Vec (Option TyNo) Global) (o : Option TyNo) → IsSoundWalk w → Keeps w.table t
     → (v.items ≡ w.entries.items ++ o ∷ []) ⊎ (v.items ≡ w.entries.items) → StandsWhereFound t o → Grows w (record w { table = t; entries = v })
 pushed_grows {w = w} {t = t} v o sound keeps put stands = record {
   sound = sound_with w (record w { table = t; entries = v }) sound keeps (stand put) (all_stand_keep w.table t w.found.items keeps sound.found) (right_kept w.table t w.verdicts keeps sound.verdicts) sound.room refl;
@@ -156,7 +156,7 @@ pushed_grows {w = w} {t = t} v o sound keeps put stands = record {
     stand (inl e) = subst (λ os. AllStandIn t os) (sym e) (all_stand_push t w.entries.items o before stands)
     stand (inr e) = subst (λ os. AllStandIn t os) (sym e) before
 
-pub popped_grows : {w0 wp w : Walk} {t : List Typ} (v : Vec (Option TyNo) Global) → Grows w0 wp → Grows wp w → Keeps w.table t → v.items ≡ w0.entries.items → IsSoundWalk w0
+pub popped_grows : {w0 wp w : TypeChecker} {t : List Typ} (v : Vec (Option TyNo) Global) → Grows w0 wp → Grows wp w → Keeps w.table t → v.items ≡ w0.entries.items → IsSoundWalk w0
     → Grows w0 (record w { table = t; entries = v })
 popped_grows {w0 = w0} {wp = wp} {w = w} {t = t} v first second keeps same sound =
     let all = keeps_trans w0.table w.table t (keeps_trans w0.table wp.table w.table first.keeps second.keeps) keeps in
@@ -179,7 +179,7 @@ within_more (Some last) os o now up_to put =
     let count = length-append os (o ∷ []) in
     omega (arith, longer, count, up_to)
 
-pub settle_grows : (w : Walk) (fs : Vec (Option TyNo) Global) (bs : Vec Blame Global) (found : Option TyNo) → IsSoundWalk w → StandsWhereFound w.table found
+pub settle_grows : (w : TypeChecker) (fs : Vec (Option TyNo) Global) (bs : Vec Blame Global) (found : Option TyNo) → IsSoundWalk w → StandsWhereFound w.table found
     → fs.items ≡ w.found.items ++ found ∷ [] → IsUpTo w.last (length w.found.items) → Grows w (record w { found = fs; blames = bs })
 settle_grows w fs bs found sound stands put up_to = record {
   sound = sound_with w (record w { found = fs; blames = bs }) sound (keeps_same w.table) sound.entries
@@ -193,19 +193,19 @@ pub blames_push : (bs : List Blame) (b : Blame) → blames_of (bs ++ b ∷ []) �
 blames_push [] b = refl
 blames_push (a ∷ bs) b = ap (λ rest. blamed_of a ∷ rest) (blames_push bs b)
 
-pub under_entry : (w : Walk) (t : List Typ) (v : Vec (Option TyNo) Global) (o : Option TyNo) (x : Option Typ) → IsSoundWalk w → Keeps w.table t
+pub under_entry : (w : TypeChecker) (t : List Typ) (v : Vec (Option TyNo) Global) (o : Option TyNo) (x : Option Typ) → IsSoundWalk w → Keeps w.table t
     → v.items ≡ w.entries.items ++ o ∷ [] → answer t o ≡ x → entries_of (record w { table = t; entries = v }) ≡ x ∷ entries_of w
 under_entry w t v o x sound keeps put is =
     ap (λ os. context_under t os) put ∙ context-push t w.entries.items o
     ∙ ap (λ y. y ∷ context_under t w.entries.items) is ∙ ap (λ g. x ∷ g) (context_keep w.table t w.entries.items keeps sound.entries)
 
 -- the walk is under one more entry, and has found nothing since
-pub record IsUnder (old now : Walk) (entry : Option Typ) : Type 0 where
+pub record IsUnder (old now : TypeChecker) (entry : Option Typ) : Type 0 where
   pub entries : entries_of now ≡ entry ∷ entries_of old
   pub progress : progress_of now ≡ progress_of old
   pub dialect : now.verdicts.dialect ≡ old.verdicts.dialect
 
-pub pushed_under : {w : Walk} {t : List Typ} {x : Option Typ} (v : Vec (Option TyNo) Global) (o : Option TyNo)
+pub pushed_under : {w : TypeChecker} {t : List Typ} {x : Option Typ} (v : Vec (Option TyNo) Global) (o : Option TyNo)
     → IsSoundWalk w → Keeps w.table t → v.items ≡ w.entries.items ++ o ∷ [] → answer t o ≡ x → IsUnder w (record w { table = t; entries = v }) x
 pushed_under {w = w} {t = t} {x = x} v o sound keeps put is = record {
   entries = under_entry w t v o x sound keeps put is;
@@ -226,19 +226,19 @@ parts_empty after before parts are none = are ∙ ap (λ xs. xs ++ parts) none
 
 -- an error that is passed on
 
-pub err_walked : (r : Result (Option TyNo) Stop) (stop : Stop) (w0 now : Walk) (e : Term)
+pub err_walked : (r : Result (Option TyNo) Stop) (stop : Stop) (w0 now : TypeChecker) (e : Term)
     → IsErrAnd r (λ y. y ≡ stop) → HasStopped stop w0 now e → HasWalked r w0 now e
 err_walked (Ok x) stop w0 now e is stopped = absurd is
 err_walked (Err s) stop w0 now e is stopped = subst (λ x. HasStopped x w0 now e) (sym is) stopped
 
-pub err_fields_walked : (r : Result Bool Stop) (stop : Stop) (w0 now : Walk) (es : TermFields) (before after : List (String Global × TyNo))
+pub err_fields_walked : (r : Result Bool Stop) (stop : Stop) (w0 now : TypeChecker) (es : TermFields) (before after : List (String Global × TyNo))
     → IsErrAnd r (λ y. y ≡ stop) → HasStoppedInFields stop w0 now es → HasWalkedFields r w0 now es before after
 err_fields_walked (Ok x) stop w0 now es before after is stopped = absurd is
 err_fields_walked (Err s) stop w0 now es before after is stopped = subst (λ x. HasStoppedInFields x w0 now es) (sym is) stopped
 
 -- the terms of a record, one after the other
 
-fields_none : (w : Walk) (items : List (String Global × TyNo)) → FieldsWalked w w no_terms items items true
+fields_none : (w : TypeChecker) (items : List (String Global × TyNo)) → FieldsWalked w w no_terms items items true
 fields_none w items = record {
   entries = refl;
   parts = [];
@@ -248,17 +248,17 @@ fields_none w items = record {
   fields = λ s low. refl;
 }
 
-pub no_fields_walked : (w : Walk) (fs : List InternedField) (items : List (String Global × TyNo)) → length fs ≡ 0 → FieldsWalked w w (interned_terms w.table fs) items items true
+pub no_fields_walked : (w : TypeChecker) (fs : List InternedField) (items : List (String Global × TyNo)) → length fs ≡ 0 → FieldsWalked w w (interned_terms w.table fs) items items true
 no_fields_walked w [] items e = fields_none w items
 no_fields_walked w (f ∷ fs) items e = absurd (omega arith)
 
 -- those that follow, under the entries and in the dialect of an earlier walk
-fields_at : (w1 w2 : Walk) (g : Context) (es : TermFields) (before after : List (String Global × TyNo)) (all : Bool) (d : Dialect)
+fields_at : (w1 w2 : TypeChecker) (g : Context) (es : TermFields) (before after : List (String Global × TyNo)) (all : Bool) (d : Dialect)
     → (rest : FieldsWalked w1 w2 es before after all) → entries_of w1 ≡ g → w1.verdicts.dialect ≡ d
     → Went g (λ s. field_places s es) (progress_of w1) (progress_of w2) d × ((s : Scope) → IsLowest s g d → AreFieldsAt s es (if_all all (fields_over w2.table rest.parts)) d)
 fields_at w1 w2 g es before after all d rest same is = rw (sym same, sym is) (rest.went, rest.fields)
 
-pub fields_unfound : (w0 w1 w2 : Walk) (l : Label) (e : Term) (es : TermFields) (found : Option TyNo) (before after : List (String Global × TyNo)) (all : Bool)
+pub fields_unfound : (w0 w1 w2 : TypeChecker) (l : Label) (e : Term) (es : TermFields) (found : Option TyNo) (before after : List (String Global × TyNo)) (all : Bool)
     → IsSoundWalk w0 → Grows w0 w1 → WalkedOver w0 w1 e found → found ≡ None → FieldsWalked w1 w2 es before after all
     → FieldsWalked w0 w2 (term_field l e es) before after false
 fields_unfound w0 w1 w2 l e es found before after all sound grows first none rest =
@@ -283,7 +283,7 @@ more_rule : (l k : Label) (t u : Typ) (all : Bool) (fs : Fields) → k ≡ l →
 more_rule l k t u true fs same_label same_type = rw (same_label, same_type)
 more_rule l k t u false fs same_label same_type = refl
 
-pub fields_found : (w0 w1 w2 : Walk) (l : Label) (e : Term) (es : TermFields) (found : Option TyNo) (label : String Global) (number : TyNo) (before pushed after : List (String Global × TyNo)) (all : Bool)
+pub fields_found : (w0 w1 w2 : TypeChecker) (l : Label) (e : Term) (es : TermFields) (found : Option TyNo) (label : String Global) (number : TyNo) (before pushed after : List (String Global × TyNo)) (all : Bool)
     → IsSoundWalk w0 → Grows w0 w1 → WalkedOver w0 w1 e found → found ≡ Some number → Grows w1 w2 → pushed ≡ before ++ (label, number) ∷ [] → string_bytes label ≡ l
     → FieldsWalked w1 w2 es pushed after all → FieldsWalked w0 w2 (term_field l e es) before after all
 fields_found w0 w1 w2 l e es found label number before pushed after all sound grows first is more put same_label rest =
@@ -308,17 +308,17 @@ fields_found w0 w1 w2 l e es found label number before pushed after all sound gr
       );
     }
 
-pub fields_front : (stop : Stop) (w0 w1 : Walk) (l : Label) (e : Term) (es : TermFields) → HasStopped stop w0 w1 e → HasStoppedInFields stop w0 w1 (term_field l e es)
+pub fields_front : (stop : Stop) (w0 w1 : TypeChecker) (l : Label) (e : Term) (es : TermFields) → HasStopped stop w0 w1 e → HasStoppedInFields stop w0 w1 (term_field l e es)
 fields_front stop w0 w1 l e es stopped = among_front stop (entries_of w0) (λ s. places s e) (λ s. field_places s es) w0 w1 w0.verdicts.dialect stopped
 
-pub fields_behind : (stop : Stop) (w0 w1 w2 : Walk) (l : Label) (e : Term) (es : TermFields) (found : Option TyNo)
+pub fields_behind : (stop : Stop) (w0 w1 w2 : TypeChecker) (l : Label) (e : Term) (es : TermFields) (found : Option TyNo)
     → IsSoundWalk w0 → Grows w0 w1 → WalkedOver w0 w1 e found → HasStoppedInFields stop w1 w2 es → HasStoppedInFields stop w0 w2 (term_field l e es)
 fields_behind stop w0 w1 w2 l e es found sound grows first stopped =
     let d = w0.verdicts.dialect in
     among_behind stop (entries_of w0) (λ s. places s e) (λ s. field_places s es) w0 w1 w2 d first.over.went
     (among_from stop (entries_of w1) (entries_of w0) (λ s. field_places s es) w1 w1 w2 w1.verdicts.dialect d (entries_same w0 w1 sound grows.keeps first.entries) refl grows.dialect stopped)
 
-pub fields_then : (r : Result Bool Stop) (w0 w1 w2 : Walk) (l : Label) (e : Term) (es : TermFields) (found : Option TyNo) (label : String Global) (number : TyNo) (before pushed after : List (String Global × TyNo))
+pub fields_then : (r : Result Bool Stop) (w0 w1 w2 : TypeChecker) (l : Label) (e : Term) (es : TermFields) (found : Option TyNo) (label : String Global) (number : TyNo) (before pushed after : List (String Global × TyNo))
     → IsSoundWalk w0 → Grows w0 w1 → WalkedOver w0 w1 e found → found ≡ Some number → Grows w1 w2 → pushed ≡ before ++ (label, number) ∷ [] → string_bytes label ≡ l
     → HasWalkedFields r w1 w2 es pushed after → HasWalkedFields r w0 w2 (term_field l e es) before after
 fields_then (Ok all) w0 w1 w2 l e es found label number before pushed after sound grows first is more put same_label rest =
@@ -328,7 +328,7 @@ fields_then (Err stop) w0 w1 w2 l e es found label number before pushed after so
 
 -- the term itself is recorded
 
-pub settled_over : (w0 mid now : Walk) (e : Term) (ps : Scope → List Place) (found : Option TyNo) (blame : Option (Bor Text))
+pub settled_over : (w0 mid now : TypeChecker) (e : Term) (ps : Scope → List Place) (found : Option TyNo) (blame : Option (Bor Text))
     → ((s : Scope) → ps s ++ record { scope = s; here = e } ∷ [] ≡ places s e)
     → mid.entries.items ≡ w0.entries.items → StandsWhereFound mid.table found
     → IsReady (entries_of w0) e ps (progress_of w0) (progress_of mid) (answer mid.table found) (blame_at (length mid.found.items) blame) w0.verdicts.dialect
@@ -347,7 +347,7 @@ settled_over w0 mid now e ps found blame split same stands ready settles = recor
       };
 }
 
-pub settled_stop : (stop : Stop) (w0 mid now : Walk) (e : Term) (ps : Scope → List Place) (found : Option TyNo) (blame : Option (Bor Text))
+pub settled_stop : (stop : Stop) (w0 mid now : TypeChecker) (e : Term) (ps : Scope → List Place) (found : Option TyNo) (blame : Option (Bor Text))
     → ((s : Scope) → ps s ++ record { scope = s; here = e } ∷ [] ≡ places s e)
     → mid.entries.items ≡ w0.entries.items → StandsWhereFound mid.table found
     → IsReady (entries_of w0) e ps (progress_of w0) (progress_of mid) (answer mid.table found) (blame_at (length mid.found.items) blame) w0.verdicts.dialect
@@ -371,7 +371,7 @@ settled_stop Stop.TooLarge w0 mid now e ps (Some number) blame split same stands
 abbrev pub Blames : Bool → Option TyNo → Text → Option (Bor Text) → Type 0
 Blames parts found code blame = (ts : List Typ) (n : ℕ) → blame_at n blame ≡ blame_step n parts (answer ts found) code
 
-ready_at : (mid : Walk) (g : Context) (e : Term) (ps : Scope → List Place) (old : Progress) (found : Option TyNo) (parts seen : Bool) (code : Text) (blame : Option (Bor Text)) (d : Dialect)
+ready_at : (mid : TypeChecker) (g : Context) (e : Term) (ps : Scope → List Place) (old : Progress) (found : Option TyNo) (parts seen : Bool) (code : Text) (blame : Option (Bor Text)) (d : Dialect)
     → IsReady g e ps old (progress_of mid) (answer mid.table found) (blame_step (length (answers mid.table mid.found.items)) seen (answer mid.table found) code) d
     → seen ≡ parts → Blames parts found code blame
     → IsReady g e ps old (progress_of mid) (answer mid.table found) (blame_at (length mid.found.items) blame) d
@@ -381,7 +381,7 @@ ready_at mid g e ps old found parts seen code blame d ready same blames =
     subst (λ bs. IsReady g e ps old (progress_of mid) (answer mid.table found) bs d) is ready
 
 -- the same for the result of a step
-pub settled_walked : (r : Result (Option TyNo) Stop) (w0 mid now : Walk) (e : Term) (ps : Scope → List Place) (found : Option TyNo) (blame : Option (Bor Text))
+pub settled_walked : (r : Result (Option TyNo) Stop) (w0 mid now : TypeChecker) (e : Term) (ps : Scope → List Place) (found : Option TyNo) (blame : Option (Bor Text))
     → HasSettled r mid now found blame
     → IsReady (entries_of w0) e ps (progress_of w0) (progress_of mid) (answer mid.table found) (blame_at (length mid.found.items) blame) w0.verdicts.dialect
     → mid.entries.items ≡ w0.entries.items → StandsWhereFound mid.table found
@@ -393,25 +393,25 @@ settled_walked (Err stop) w0 mid now e ps found blame h ready same stands split 
 
 -- terms without parts
 
-pub leaf_parts : (w : Walk) (e : Term) (number : TyNo) (t : Typ) → IsNumberOf w.table number t
+pub leaf_parts : (w : TypeChecker) (e : Term) (number : TyNo) (t : Typ) → IsNumberOf w.table number t
     → IsReady (entries_of w) e (λ s. []) (progress_of w) (progress_of w) (Some t) [] w.verdicts.dialect
     → IsReady (entries_of w) e (λ s. []) (progress_of w) (progress_of w) (answer w.table (Some number)) (blame_at (length w.found.items) None) w.verdicts.dialect
 leaf_parts w e number t is ready = subst (λ o. IsReady (entries_of w) e (λ s. []) (progress_of w) (progress_of w) o [] w.verdicts.dialect) (ap Some (sym is.type)) ready
 
-pub free_parts : (w : Walk) (x : List ℕ) (blame : Option (Bor Text)) → Blames true None (codes "E1") blame
+pub free_parts : (w : TypeChecker) (x : List ℕ) (blame : Option (Bor Text)) → Blames true None (codes "E1") blame
     → IsReady (entries_of w) (free x) (λ s. []) (progress_of w) (progress_of w) (answer w.table None) (blame_at (length w.found.items) blame) w.verdicts.dialect
 free_parts w x blame blames =
     let d = w.verdicts.dialect in
     ready_at w (entries_of w) (free x) (λ s. []) (progress_of w) None true true (codes "E1") blame d (free_ready (entries_of w) x (progress_of w) d) refl blames
 
-pub unbound_parts : (w : Walk) (n : ℕ) (blame : Option (Bor Text)) → length w.entries.items ≤ n → Blames true None (codes "E1") blame
+pub unbound_parts : (w : TypeChecker) (n : ℕ) (blame : Option (Bor Text)) → length w.entries.items ≤ n → Blames true None (codes "E1") blame
     → IsReady (entries_of w) (variable n) (λ s. []) (progress_of w) (progress_of w) (answer w.table None) (blame_at (length w.found.items) blame) w.verdicts.dialect
 unbound_parts w n blame le blames =
     let d = w.verdicts.dialect in
     ready_at w (entries_of w) (variable n) (λ s. []) (progress_of w) None true true (codes "E1") blame d
     (unbound_ready (entries_of w) n (progress_of w) d (let e = length-context w.table w.entries.items in omega arith)) refl blames
 
-pub variable_parts : (w : Walk) (n : ℕ) (found : Option TyNo) → n < length w.entries.items → answer w.table found ≡ entry_at n (entries_of w)
+pub variable_parts : (w : TypeChecker) (n : ℕ) (found : Option TyNo) → n < length w.entries.items → answer w.table found ≡ entry_at n (entries_of w)
     → IsReady (entries_of w) (variable n) (λ s. []) (progress_of w) (progress_of w) (answer w.table found) (blame_at (length w.found.items) None) w.verdicts.dialect
 variable_parts w n found lt is =
     variable_ready (entries_of w) n (answer w.table found) (progress_of w) w.verdicts.dialect (let e = length-context w.table w.entries.items in omega arith) is
@@ -425,7 +425,7 @@ numeric_places (pred p) e t is s = ap (λ r. places s r ++ record { scope = s; h
 numeric_places (is_zero p) e t is s = ap (λ r. places s r ++ record { scope = s; here = is_zero p } ∷ []) (sym is.0)
 numeric_places _ e t is s = absurd is
 
-module _ (w0 w1 : Walk) (e : Term) (x found : Option TyNo) (blame : Option (Bor Text)) (grows : Grows w0 w1) (over : WalkedOver w0 w1 e x) where
+module _ (w0 w1 : TypeChecker) (e : Term) (x found : Option TyNo) (blame : Option (Bor Text)) (grows : Grows w0 w1) (over : WalkedOver w0 w1 e x) where
   -- an operation on a number, by the number of the type that the whole has
   pub numeric_parts : (q : Term) (outcome : TyNo) → StandsWhereFound w0.table (Some outcome) → IsNumeric q e (type_of w0.table outcome)
       → NatRule (type_of w1.table outcome) (answer w1.table x) (answer w1.table found) w1.verdicts.dialect → Blames (is_some x) found (codes "E6") blame
@@ -470,7 +470,7 @@ over_as : (g h : Context) (e : Term) (p p' q q' : Progress) (o o' : Option Typ) 
 over_as g h e p p' q q' o o' d d' a b c f i over = rw (sym a, sym b, sym c, sym f, sym i) over
 
 -- a lambda: the walk over its body under one more entry
-pub lambda_parts : (w0 w2 w3 w5 : Walk) (e : Term) (w : Option Typ) (outcome found : Option TyNo)
+pub lambda_parts : (w0 w2 w3 w5 : TypeChecker) (e : Term) (w : Option Typ) (outcome found : Option TyNo)
     → IsWellFormedEntry w → IsUnder w0 w2 w → WalkedOver w2 w3 e outcome → progress_of w5 ≡ progress_of w3
     → LambdaRule w (answer w3.table outcome) (answer w5.table found)
     → IsReady (entries_of w0) (lambda w e) (λ s. places (written w ∷ s) e) (progress_of w0) (progress_of w5) (answer w5.table found) (blame_at (length w5.found.items) None) w0.verdicts.dialect
@@ -481,7 +481,7 @@ lambda_parts w0 w2 w3 w5 e w outcome found wf under over to rule =
     rule
 
 -- a let: the walk over its first term, and over its second one under one more entry
-pub let_parts : (w0 w1 w2 w3 w4 : Walk) (a b : Term) (bound outcome found : Option TyNo)
+pub let_parts : (w0 w1 w2 w3 w4 : TypeChecker) (a b : Term) (bound outcome found : Option TyNo)
     → IsSoundWalk w0 → Grows w0 w1 → WalkedOver w0 w1 a bound → IsUnder w1 w2 (answer w1.table bound) → WalkedOver w2 w3 b outcome → progress_of w4 ≡ progress_of w3
     → LetRule (answer w1.table bound) (answer w3.table outcome) (answer w4.table found)
     → IsReady (entries_of w0) (let_in a b) (λ s. places s a ++ places (of_term a ∷ s) b) (progress_of w0) (progress_of w4) (answer w4.table found) (blame_at (length w4.found.items) None) w0.verdicts.dialect
@@ -495,7 +495,7 @@ let_parts w0 w1 w2 w3 w4 a b bound outcome found sound grows over_a under over_b
 
 -- terms with several parts in one scope
 
-pub apply_parts : (w0 w1 w2 : Walk) (f a : Term) (x y found : Option TyNo) (code : Text) (blame : Option (Bor Text))
+pub apply_parts : (w0 w1 w2 : TypeChecker) (f a : Term) (x y found : Option TyNo) (code : Text) (blame : Option (Bor Text))
     → IsSoundWalk w0 → Grows w0 w1 → WalkedOver w0 w1 f x → Grows w1 w2 → WalkedOver w1 w2 a y
     → ApplyRule (answer w2.table x) (answer w2.table y) (answer w2.table found) w2.verdicts.dialect → IsApplicationCode code (answer w2.table x) → Blames (is_some x && is_some y) found code blame
     → IsReady (entries_of w0) (apply f a) (λ s. places s f ++ places s a) (progress_of w0) (progress_of w2) (answer w2.table found) (blame_at (length w2.found.items) blame) w0.verdicts.dialect
@@ -512,7 +512,7 @@ apply_parts w0 w1 w2 f a x y found code blame sound grows_f over_f grows_a over_
     seen blames
 
 -- the table grows once more, by the join
-pub if_parts : (w0 w1 w2 w3 w4 : Walk) (e1 e2 e3 : Term) (x y z found : Option TyNo) (blame : Option (Bor Text))
+pub if_parts : (w0 w1 w2 w3 w4 : TypeChecker) (e1 e2 e3 : Term) (x y z found : Option TyNo) (blame : Option (Bor Text))
     → IsSoundWalk w0 → Grows w0 w1 → WalkedOver w0 w1 e1 x → Grows w1 w2 → WalkedOver w1 w2 e2 y → Grows w2 w3 → WalkedOver w2 w3 e3 z → progress_of w4 ≡ progress_of w3
     → IfRule (answer w3.table x) (answer w3.table y) (answer w3.table z) (answer w4.table found) w3.verdicts.dialect → Blames (is_some x && (is_some y && is_some z)) found (codes "E5") blame
     → IsReady (entries_of w0) (if_then_else e1 e2 e3) (λ s. (places s e1 ++ places s e2) ++ places s e3) (progress_of w0) (progress_of w4) (answer w4.table found) (blame_at (length w4.found.items) blame) w0.verdicts.dialect
@@ -533,7 +533,7 @@ if_parts w0 w1 w2 w3 w4 e1 e2 e3 x y z found blame sound r1 o1 r2 o2 r3 o3 to ru
     seen blames
 
 -- a record
-pub record_parts : (w0 w1 w2 : Walk) (es : TermFields) (before after : List (String Global × TyNo)) (all : Bool) (found : Option TyNo) (blame : Option (Bor Text))
+pub record_parts : (w0 w1 w2 : TypeChecker) (es : TermFields) (before after : List (String Global × TyNo)) (all : Bool) (found : Option TyNo) (blame : Option (Bor Text))
     → (over : FieldsWalked w0 w1 es before after all) → progress_of w2 ≡ progress_of w1
     → RecordRule (if_all all (fields_over w1.table over.parts)) (answer w2.table found) → Blames all found (codes "E9") blame
     → IsReady (entries_of w0) (record_term es) (λ s. field_places s es) (progress_of w0) (progress_of w2) (answer w2.table found) (blame_at (length w2.found.items) blame) w0.verdicts.dialect

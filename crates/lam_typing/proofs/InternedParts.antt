@@ -1,6 +1,5 @@
 -- The form of a term from the forms of its parts, over the numbers of a table that has grown in between.
-use Rattle.std.proofs.Common.{◌≡◌, ℕ, List, [], ◌∷◌, ◌++◌, length, append_assoc, Box, Vec, String, Option, Result, Ok, Err, IfOk, OnOk, ap, sym, subst, refl, ◌∙◌, arith}
-use Rattle.std.proofs.lemmas.List.{append-nil}
+use Rattle.std.proofs.Common.{◌≡◌, ℕ, List, [], ◌∷◌, ◌++◌, append_assoc, Box, Vec, Option, Result, Ok, Err, IfOk, OnOk, ap, sym, subst, refl, ◌∙◌}
 use Rattle.std.specs.declared.alloc.Global.{Global}
 use Rattle.std.specs.declared.alloc.AllocError.{AllocError}
 use denote.Ref.{Bor}
@@ -8,9 +7,7 @@ use Rattle.lam_rules.specs.Types.{Label, Typ}
 use Rattle.lam_rules.specs.Texts.{Text}
 use Rattle.lam_rules.specs.Terms as rules
 use Rattle.lam_rules.specs.Terms.{Term, TermFields}
-use Rattle.lam_rules.specs.TermViews.{terms_of}
 use Rattle.lam_rules.specs.Numbers.{Keeps}
-use Rattle.lam_rules.specs.declared.terms.Core.{Core}
 use Rattle.lam_rules.specs.declared.numbers.TyNo.{TyNo}
 use Rattle.lam_scope.specs.Numbered.{Numbered, true_term, false_term, if_then_else, numeral, succ, pred, is_zero, variable, free, lambda, apply, unit_term, ascribe, let_in, record_term, project, fix, term_over, NumbersStand}
 use Rattle.lam_scope.specs.InternedViews.{numbered_of, numbered_terms}

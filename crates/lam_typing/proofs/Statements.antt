@@ -17,14 +17,14 @@ use Rattle.lam_scope.proofs.Resolving.{statements-drop}
 use Rattle.lam_typing.specs.Answers.{answer}
 use Rattle.lam_typing.specs.Progress.{IsLowest, Went}
 use Rattle.lam_typing.specs.Walk.{entries_of, progress_of, IsSoundWalk, Grows, WalkedOver, HasStopped, HasStoppedAmong, HasStoppedAt, GoesOn}
-use Rattle.lam_typing.specs.declared.walking.Walk.{Walk}
+use Rattle.lam_typing.specs.declared.checker.TypeChecker.{TypeChecker}
 use Rattle.lam_typing.specs.declared.walking.Stop.{Stop}
 use Rattle.lam_typing.proofs.LeastIn.{lowest_written}
 use Rattle.lam_typing.proofs.Together.{went_none, went_both, went_under}
 use Rattle.lam_typing.proofs.Forms.{lowest_let}
 use Rattle.lam_typing.proofs.Glue.{grows_trans, went_from, entries_same, progress_same, under_entry, among_front, among_behind, among_under, among_from}
 
-pub goes_on_stated : (w0 w1 : Walk) (e : Term) (found : Option TyNo) → IsSoundWalk w0 → Grows w0 w1 → WalkedOver w0 w1 e found → GoesOn w0 w1 (states e)
+pub goes_on_stated : (w0 w1 : TypeChecker) (e : Term) (found : Option TyNo) → IsSoundWalk w0 → Grows w0 w1 → WalkedOver w0 w1 e found → GoesOn w0 w1 (states e)
 goes_on_stated w0 w1 e found sound grows over =
     let d = w0.verdicts.dialect in
     let same = entries_same w0 w1 sound grows.keeps over.entries in
@@ -37,7 +37,7 @@ goes_on_stated w0 w1 e found sound grows over =
           (among_from stop (entries_of w1) (entries_of w0) (λ s. places_of s rest) w1 w1 now w1.verdicts.dialect d same refl grows.dialect stopped);
     }
 
-pub goes_on_defined : (w0 w1 : Walk) (v : Vec (Option TyNo) Global) (e : Term) (found : Option TyNo) → IsSoundWalk w0 → Grows w0 w1 → WalkedOver w0 w1 e found
+pub goes_on_defined : (w0 w1 : TypeChecker) (v : Vec (Option TyNo) Global) (e : Term) (found : Option TyNo) → IsSoundWalk w0 → Grows w0 w1 → WalkedOver w0 w1 e found
     → v.items ≡ w1.entries.items ++ found ∷ [] → GoesOn w0 (record w1 { entries = v }) (defines e)
 goes_on_defined w0 w1 v e found sound grows over put =
     let d = w0.verdicts.dialect in
@@ -57,7 +57,7 @@ goes_on_defined w0 w1 v e found sound grows over put =
           (among_from stop (entries_of w2) (x ∷ entries_of w0) (λ s. places_of s rest) w2 w1 now w2.verdicts.dialect d under refl grows.dialect stopped));
     }
 
-pub goes_on_declared : (w0 : Walk) (t : List Typ) (v : Vec (Option TyNo) Global) (w : Option Typ) (entry : Option TyNo) → IsSoundWalk w0 → IsWellFormedEntry w → Keeps w0.table t
+pub goes_on_declared : (w0 : TypeChecker) (t : List Typ) (v : Vec (Option TyNo) Global) (w : Option Typ) (entry : Option TyNo) → IsSoundWalk w0 → IsWellFormedEntry w → Keeps w0.table t
     → v.items ≡ w0.entries.items ++ entry ∷ [] → answer t entry ≡ w → GoesOn w0 (record w0 { table = t; entries = v }) (declares w)
 goes_on_declared w0 t v w entry sound wf keeps put is =
     let d = w0.verdicts.dialect in
@@ -74,14 +74,14 @@ goes_on_declared w0 t v w entry sound wf keeps put is =
           (among_from stop (entries_of w1) (w ∷ entries_of w0) (λ s. places_of s rest) w1 w0 now d d under same refl stopped);
     }
 
-pub stated_stopped : (w0 w1 : Walk) (e : Term) (rest : List Statement) (stop : Stop) → HasStopped stop w0 w1 e → HasStoppedAmong stop (entries_of w0) (λ s. places_of s (states e ∷ rest)) w0 w1 w0.verdicts.dialect
+pub stated_stopped : (w0 w1 : TypeChecker) (e : Term) (rest : List Statement) (stop : Stop) → HasStopped stop w0 w1 e → HasStoppedAmong stop (entries_of w0) (λ s. places_of s (states e ∷ rest)) w0 w1 w0.verdicts.dialect
 stated_stopped w0 w1 e rest stop stopped = among_front stop (entries_of w0) (λ s. places s e) (λ s. places_of s rest) w0 w1 w0.verdicts.dialect stopped
 
-pub defined_stopped : (w0 w1 : Walk) (e : Term) (rest : List Statement) (stop : Stop) → HasStopped stop w0 w1 e → HasStoppedAmong stop (entries_of w0) (λ s. places_of s (defines e ∷ rest)) w0 w1 w0.verdicts.dialect
+pub defined_stopped : (w0 w1 : TypeChecker) (e : Term) (rest : List Statement) (stop : Stop) → HasStopped stop w0 w1 e → HasStoppedAmong stop (entries_of w0) (λ s. places_of s (defines e ∷ rest)) w0 w1 w0.verdicts.dialect
 defined_stopped w0 w1 e rest stop stopped = among_front stop (entries_of w0) (λ s. places s e) (λ s. places_of (of_term e ∷ s) rest) w0 w1 w0.verdicts.dialect stopped
 
 -- a statement whose numbers were put into the table first
-pub goes_on_numbered : (w0 : Walk) (t : List Typ) (w2 : Walk) (statement : Statement) → IsSoundWalk w0 → Keeps w0.table t → GoesOn (record w0 { table = t }) w2 statement → GoesOn w0 w2 statement
+pub goes_on_numbered : (w0 : TypeChecker) (t : List Typ) (w2 : TypeChecker) (statement : Statement) → IsSoundWalk w0 → Keeps w0.table t → GoesOn (record w0 { table = t }) w2 statement → GoesOn w0 w2 statement
 goes_on_numbered w0 t w2 statement sound keeps on =
     let d = w0.verdicts.dialect in
     let w1 = record w0 { table = t } in
@@ -92,7 +92,7 @@ goes_on_numbered w0 t w2 statement sound keeps on =
       stopped = λ rest stop end stopped. among_from stop (entries_of w1) (entries_of w0) (λ s. places_of s (statement ∷ rest)) w1 w0 end d d g p refl (on.stopped rest stop end stopped);
     }
 
-pub numbered_stopped : (stop : Stop) (w0 : Walk) (t : List Typ) (w2 : Walk) (statement : Statement) → IsSoundWalk w0 → Keeps w0.table t
+pub numbered_stopped : (stop : Stop) (w0 : TypeChecker) (t : List Typ) (w2 : TypeChecker) (statement : Statement) → IsSoundWalk w0 → Keeps w0.table t
     → HasStoppedAt stop (record w0 { table = t }) w2 statement → HasStoppedAt stop w0 w2 statement
 numbered_stopped stop w0 t w2 statement sound keeps stopped =
     let d = w0.verdicts.dialect in
@@ -100,19 +100,19 @@ numbered_stopped stop w0 t w2 statement sound keeps stopped =
     λ rest. among_from stop (entries_of w1) (entries_of w0) (λ s. places_of s (statement ∷ rest)) w1 w0 w2 d d
     (entries_same w0 w1 sound keeps refl) (progress_same w0 w1 sound keeps refl refl) refl (stopped rest)
 
-pub err_stopped_at : {A : Type 0} (r : Result A Stop) (stop : Stop) (w0 now : Walk) (statement : Statement)
+pub err_stopped_at : {A : Type 0} (r : Result A Stop) (stop : Stop) (w0 now : TypeChecker) (statement : Statement)
     → IsErrAnd r (λ y. y ≡ stop) → HasStoppedAt stop w0 now statement → IfErr r (λ s. HasStoppedAt s w0 now statement)
 err_stopped_at (Ok x) stop w0 now statement is stopped = absurd is
 err_stopped_at (Err s) stop w0 now statement is stopped = subst (λ x. HasStoppedAt x w0 now statement) (sym is) stopped
 
 -- several statements, one after the other
-pub record GoesThrough (old now : Walk) (all rest : List Statement) : Type 0 where
+pub record GoesThrough (old now : TypeChecker) (all rest : List Statement) : Type 0 where
   pub grows : Grows old now
   pub wf : AreWellFormedStatements rest
-  pub went : (end : Walk) → Went (entries_of now) (λ s. places_of s rest) (progress_of now) (progress_of end) now.verdicts.dialect → Went (entries_of old) (λ s. places_of s all) (progress_of old) (progress_of end) old.verdicts.dialect
-  pub stopped : (stop : Stop) (end : Walk) → HasStoppedAmong stop (entries_of now) (λ s. places_of s rest) now end now.verdicts.dialect → HasStoppedAmong stop (entries_of old) (λ s. places_of s all) old end old.verdicts.dialect
+  pub went : (end : TypeChecker) → Went (entries_of now) (λ s. places_of s rest) (progress_of now) (progress_of end) now.verdicts.dialect → Went (entries_of old) (λ s. places_of s all) (progress_of old) (progress_of end) old.verdicts.dialect
+  pub stopped : (stop : Stop) (end : TypeChecker) → HasStoppedAmong stop (entries_of now) (λ s. places_of s rest) now end now.verdicts.dialect → HasStoppedAmong stop (entries_of old) (λ s. places_of s all) old end old.verdicts.dialect
 
-pub goes_further : (w0 w1 w2 : Walk) (all : List Statement) (xs : List RustStatement) (i : ℕ) (x : RustStatement) → i < length xs → x ≡ get_or xs i x
+pub goes_further : (w0 w1 w2 : TypeChecker) (all : List Statement) (xs : List RustStatement) (i : ℕ) (x : RustStatement) → i < length xs → x ≡ get_or xs i x
     → GoesThrough w0 w1 all (map statement_of (drop i xs)) → Grows w1 w2 → GoesOn w1 w2 (statement_of x) → GoesThrough w0 w2 all (map statement_of (drop (i + 1) xs))
 goes_further w0 w1 w2 all xs i x lt is through grows on =
     let next = statements-drop xs i x lt is in
@@ -124,7 +124,7 @@ goes_further w0 w1 w2 all xs i x lt is through grows on =
       stopped = λ stop end stopped. through.stopped stop end (subst (λ ss. HasStoppedAmong stop (entries_of w1) (λ s. places_of s ss) w1 end w1.verdicts.dialect) (sym next) (on.stopped rest stop end stopped));
     }
 
-pub stops_at : (r : Result (Unit {0}) Stop) (stop : Stop) (w0 w1 w2 : Walk) (all : List Statement) (xs : List RustStatement) (i : ℕ) (x : RustStatement) → i < length xs → x ≡ get_or xs i x
+pub stops_at : (r : Result (Unit {0}) Stop) (stop : Stop) (w0 w1 w2 : TypeChecker) (all : List Statement) (xs : List RustStatement) (i : ℕ) (x : RustStatement) → i < length xs → x ≡ get_or xs i x
     → GoesThrough w0 w1 all (map statement_of (drop i xs)) → IsErrAnd r (λ y. y ≡ stop) → HasStoppedAt stop w1 w2 (statement_of x)
     → IfErr r (λ s. HasStoppedAmong s (entries_of w0) (λ s. places_of s all) w0 w2 w0.verdicts.dialect)
 stops_at (Ok y) stop w0 w1 w2 all xs i x lt is through err stopped = absurd err
@@ -132,7 +132,7 @@ stops_at (Err e) stop w0 w1 w2 all xs i x lt is through err stopped =
     subst (λ y. HasStoppedAmong y (entries_of w0) (λ s. places_of s all) w0 w2 w0.verdicts.dialect) (sym err)
     (through.stopped stop w2 (subst (λ ss. HasStoppedAmong stop (entries_of w1) (λ s. places_of s ss) w1 w2 w1.verdicts.dialect) (sym (statements-drop xs i x lt is)) (stopped (map statement_of (drop (i + 1) xs)))))
 
-pub goes_to_end : (w0 w1 : Walk) (all : List Statement) (xs : List RustStatement) (i : ℕ) → length xs ≤ i
+pub goes_to_end : (w0 w1 : TypeChecker) (all : List Statement) (xs : List RustStatement) (i : ℕ) → length xs ≤ i
     → GoesThrough w0 w1 all (map statement_of (drop i xs)) → Went (entries_of w0) (λ s. places_of s all) (progress_of w0) (progress_of w1) w0.verdicts.dialect
 goes_to_end w0 w1 all xs i le through =
     let none : map statement_of (drop i xs) ≡ [] = ap (λ ys. map statement_of ys) (drop_all i xs le) in

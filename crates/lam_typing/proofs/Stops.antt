@@ -9,7 +9,7 @@ use Rattle.lam_scope.specs.Places.{written, of_term, Scope, Place, places}
 use Rattle.lam_typing.specs.Answers.{answer}
 use Rattle.lam_typing.specs.Progress.{Went}
 use Rattle.lam_typing.specs.Walk.{progress_of, entries_of, IsSoundWalk, Grows, WalkedOver, HasStoppedAmong, HasStopped, HasWalked}
-use Rattle.lam_typing.specs.declared.walking.Walk.{Walk}
+use Rattle.lam_typing.specs.declared.checker.TypeChecker.{TypeChecker}
 use Rattle.lam_typing.specs.declared.walking.Stop.{Stop}
 use Rattle.lam_typing.proofs.LeastIn.{lowest_written}
 use Rattle.lam_typing.proofs.Together.{went_both}
@@ -19,19 +19,19 @@ use Rattle.lam_typing.proofs.Glue.{IsUnder, entries_same, went_from, err_walked,
 -- parts that stand in one scope
 
 -- it went over these places, and is under the same entries as before
-pub record IsPast (old now : Walk) (ps : Scope → List Place) : Type 0 where
+pub record IsPast (old now : TypeChecker) (ps : Scope → List Place) : Type 0 where
   pub entries : entries_of now ≡ entries_of old
   pub dialect : now.verdicts.dialect ≡ old.verdicts.dialect
   pub went : Went (entries_of old) ps (progress_of old) (progress_of now) old.verdicts.dialect
 
-pub past_term : {old now : Walk} {e : Term} {found : Option TyNo} → IsSoundWalk old → Grows old now → WalkedOver old now e found → IsPast old now (λ s. places s e)
+pub past_term : {old now : TypeChecker} {e : Term} {found : Option TyNo} → IsSoundWalk old → Grows old now → WalkedOver old now e found → IsPast old now (λ s. places s e)
 past_term {old = old} {now = now} sound grows over = record {
   entries = entries_same old now sound grows.keeps over.entries;
   dialect = grows.dialect;
   went = over.over.went;
 }
 
-pub past_both : {w0 w1 w2 : Walk} {ps qs : Scope → List Place} → IsPast w0 w1 ps → IsPast w1 w2 qs → IsPast w0 w2 (λ s. ps s ++ qs s)
+pub past_both : {w0 w1 w2 : TypeChecker} {ps qs : Scope → List Place} → IsPast w0 w1 ps → IsPast w1 w2 qs → IsPast w0 w2 (λ s. ps s ++ qs s)
 past_both {w0 = w0} {w1 = w1} {w2 = w2} {ps = ps} {qs = qs} first second = record {
   entries = second.entries ∙ first.entries;
   dialect = second.dialect ∙ first.dialect;
@@ -40,7 +40,7 @@ past_both {w0 = w0} {w1 = w1} {w2 = w2} {ps = ps} {qs = qs} first second = recor
 }
 
 -- in a part behind the first ones
-pub stopped_past : (stop : Stop) {w0 w1 : Walk} (w2 : Walk) {ps : Scope → List Place} (qs : Scope → List Place) → IsPast w0 w1 ps
+pub stopped_past : (stop : Stop) {w0 w1 : TypeChecker} (w2 : TypeChecker) {ps : Scope → List Place} (qs : Scope → List Place) → IsPast w0 w1 ps
     → HasStoppedAmong stop (entries_of w1) qs w1 w2 w1.verdicts.dialect → HasStoppedAmong stop (entries_of w0) (λ s. ps s ++ qs s) w0 w2 w0.verdicts.dialect
 stopped_past stop {w0 = w0} {w1 = w1} w2 {ps = ps} qs past stopped =
     let d = w0.verdicts.dialect in
@@ -50,7 +50,7 @@ stopped_past stop {w0 = w0} {w1 = w1} w2 {ps = ps} qs past stopped =
 -- a part under one more entry
 
 -- in the body of a lambda
-pub stopped_under_written : (stop : Stop) {w0 w2 : Walk} (w3 : Walk) {w : Option Typ} (e : Term) → IsWellFormedEntry w → IsUnder w0 w2 w
+pub stopped_under_written : (stop : Stop) {w0 w2 : TypeChecker} (w3 : TypeChecker) {w : Option Typ} (e : Term) → IsWellFormedEntry w → IsUnder w0 w2 w
     → HasStopped stop w2 w3 e → HasStoppedAmong stop (entries_of w0) (λ s. places (written w ∷ s) e) w0 w3 w0.verdicts.dialect
 stopped_under_written stop {w0 = w0} {w2 = w2} w3 {w = w} e wf under stopped =
     let d = w0.verdicts.dialect in
@@ -58,7 +58,7 @@ stopped_under_written stop {w0 = w0} {w2 = w2} w3 {w = w} e wf under stopped =
     (among_from stop (entries_of w2) (w ∷ entries_of w0) (λ s. places s e) w2 w0 w3 w2.verdicts.dialect d under.entries under.progress under.dialect stopped)
 
 -- in the second term of a let
-pub stopped_under_bound : (stop : Stop) {w0 w1 w2 : Walk} (w3 : Walk) {a : Term} (b : Term) {x : Option TyNo} → IsSoundWalk w0 → Grows w0 w1 → WalkedOver w0 w1 a x → IsUnder w1 w2 (answer w1.table x)
+pub stopped_under_bound : (stop : Stop) {w0 w1 w2 : TypeChecker} (w3 : TypeChecker) {a : Term} (b : Term) {x : Option TyNo} → IsSoundWalk w0 → Grows w0 w1 → WalkedOver w0 w1 a x → IsUnder w1 w2 (answer w1.table x)
     → HasStopped stop w2 w3 b → HasStoppedAmong stop (entries_of w0) (λ s. places s a ++ places (of_term a ∷ s) b) w0 w3 w0.verdicts.dialect
 stopped_under_bound stop {w0 = w0} {w1 = w1} {w2 = w2} w3 {a = a} b {x = x} sound grows over under stopped =
     let d = w0.verdicts.dialect in
@@ -69,7 +69,7 @@ stopped_under_bound stop {w0 = w0} {w1 = w1} {w2 = w2} w3 {a = a} b {x = x} soun
     (under.entries ∙ ap (λ g. entry ∷ g) (entries_same w0 w1 sound grows.keeps over.entries)) under.progress (under.dialect ∙ grows.dialect) stopped))
 
 -- so it stops in the term, whose own place comes after those of its parts
-pub part_stopped : (r : Result (Option TyNo) Stop) (stop : Stop) (old now : Walk) (e : Term) (ps : Scope → List Place) → IsErrAnd r (λ y. y ≡ stop)
+pub part_stopped : (r : Result (Option TyNo) Stop) (stop : Stop) (old now : TypeChecker) (e : Term) (ps : Scope → List Place) → IsErrAnd r (λ y. y ≡ stop)
     → HasStoppedAmong stop (entries_of old) ps old now old.verdicts.dialect → ((s : Scope) → ps s ++ record { scope = s; here = e } ∷ [] ≡ places s e) → HasWalked r old now e
 part_stopped r stop old now e ps is stopped split =
     let d = old.verdicts.dialect in

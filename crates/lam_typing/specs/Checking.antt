@@ -1,5 +1,5 @@
 -- What a `TypeChecker` holds, and what it promises of one command.
-use Rattle.std.specs.Prelude.{◌+◌, ℕ, List, [], ◌∷◌, length, IsTrue, IsFalse}
+use Rattle.std.specs.Prelude.{◌+◌, ℕ, ◌≡◌, List, [], ◌∷◌, length, None, IsTrue, IsFalse}
 use Rattle.std.specs.Borrow.{Lends, MutBor, Fml}
 use Rattle.lam_rules.specs.Types.{Typ, bool, nat, unit}
 use Rattle.lam_rules.specs.Typing.{Context}
@@ -28,12 +28,13 @@ dialect_in c = c.verdicts.dialect
 abbrev pub size_in : TypeChecker → ℕ
 size_in c = length c.table + results_kept c.verdicts
 
--- its memo of subtyping and its type ids of constants are right
+-- its memo of subtyping and its type ids of constants are right, and it looks at all subterms
 pub record IsSoundChecker (c : TypeChecker) : Type 0 where
   pub verdicts : AreRight c.table c.verdicts
   pub boolean : IsNumberOf c.table c.leaves.boolean bool
   pub natural : IsNumberOf c.table c.leaves.natural nat
   pub unit : IsNumberOf c.table c.leaves.unit unit
+  pub last : c.last ≡ None
 
 -- the same, over these types
 abbrev pub with_types : TypeChecker → List Typ → TypeChecker

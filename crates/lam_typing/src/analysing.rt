@@ -10,11 +10,12 @@ ghost use Rattle.lam_typing.specs.Typings.{IsAnalysis, IsTypingOf, AreEntries, d
 ghost use Rattle.lam_typing.specs.inner.Ends.{up_to, Begins, AreSourcesOf, AreWellFormedSources, Completes, IsEndOf};
 ghost use Rattle.lam_typing.specs.declared.fault.TypingFault.TheVariants.{Memory};
 
+use crate::checker::TypeChecker;
 use crate::entries::{number_entries, sources_of};
 use crate::fault::TypingFault;
 use crate::noting::Source;
 use crate::typing::Typing;
-use crate::walking::{Leaves, Stop, Walk, walk_statements};
+use crate::walking::{Leaves, Stop, walk_statements};
 use lam_rules::{Dialect, Shape, TyTable};
 use lam_scope::{Place, Resolved};
 use lam_sub::Verdicts;
@@ -75,7 +76,7 @@ fn analyse_up_to(
 /// Returns the result of a walk that ended early: the typing if all that was requested is found, or else the error.
 fn end(
     alloc: Global,
-    walk: Walk,
+    walk: TypeChecker,
     stop: Stop,
     sources: &[Option<Source<'_>>],
 ) -> Result<Typing, TypingFault>
@@ -94,7 +95,7 @@ fn end(
 /// walk.
 fn complete(
     alloc: Global,
-    walk: Walk,
+    walk: TypeChecker,
     sources: &[Option<Source<'_>>],
 ) -> Result<Typing, TypingFault>
     requires sound { IsSoundWalk walk }
@@ -102,7 +103,7 @@ fn complete(
     ensures completes { IfOk result (λ typing. (ss : List Statement) (origins : List Origin) → AreSourcesOf ss origins sources.now → Completes walk ss origins typing) }
     ensures fault { IfErr result (λ fault. fault ≡ Memory) }
 {
-    let Walk {
+    let TypeChecker {
         mut table,
         verdicts,
         leaves: _leaves,
@@ -133,7 +134,7 @@ pub(crate) fn start(
     alloc: Global,
     last: Option<Place>,
     dialect: Dialect,
-) -> Result<Walk, AllocError>
+) -> Result<TypeChecker, AllocError>
     ensures sound { IfOk result (λ walk. IsSoundWalk walk) }
     ensures begins { IfOk result (λ walk. Begins walk last) }
     ensures dialect { IfOk result (λ walk. walk.verdicts.dialect ≡ dialect) }
@@ -142,7 +143,7 @@ pub(crate) fn start(
     let boolean = table.intern(Shape::Bool)?;
     let natural = table.intern(Shape::Nat)?;
     let unit = table.intern(Shape::Unit)?;
-    Ok(Walk {
+    Ok(TypeChecker {
         table,
         verdicts: Verdicts::new(alloc, dialect),
         leaves: Leaves {

@@ -17,6 +17,7 @@ ghost use Rattle.lam_typing.specs.Walk.{Grows, Binds, HasWalked, HasWalkedFields
 ghost use Rattle.lam_typing.specs.declared.walking.Stop.TheVariants.{Memory};
 
 use crate::blame::Blame;
+use crate::checker::TypeChecker;
 use crate::interning::intern_statement;
 use crate::steps::{
     type_of_apply, type_of_ascribe, type_of_fix, type_of_if, type_of_lambda, type_of_let,
@@ -60,24 +61,8 @@ pub(crate) struct Leaves {
     pub unit: TyNo,
 }
 
-/// What a walk has found so far.
-#[derive(Drop)]
-pub(crate) struct Walk {
-    pub table: TyTable,
-    /// The memo of subtyping for the types of the table, in the walk's dialect: a repeated query costs a look-up.
-    pub verdicts: Verdicts,
-    pub leaves: Leaves,
-    /// The context entries of the binders in scope, outermost first.
-    pub entries: Vec<Option<TyNo>>,
-    /// The type of each subterm, in order.
-    pub found: Vec<Option<TyNo>>,
-    pub blames: Vec<Blame>,
-    /// The last subterm requested, or `None` if all are.
-    pub last: Option<Place>,
-}
-
 /// Walks the statements of a document, from first to last.
-pub(crate) fn walk_statements(walk: &mut Walk, statements: &[Statement]) -> Result<(), Stop>
+pub(crate) fn walk_statements(walk: &mut TypeChecker, statements: &[Statement]) -> Result<(), Stop>
     requires sound { IsSoundWalk walk.old }
     requires wf { AreWellFormedStatements (map statement_of statements.now) }
     ensures grows { Grows walk.old walk.new }
@@ -91,7 +76,7 @@ pub(crate) fn walk_statements(walk: &mut Walk, statements: &[Statement]) -> Resu
 }
 
 /// Walks a statement whose written types are trees, which are first interned.
-fn walk_owned_statement(walk: &mut Walk, statement: &Statement) -> Result<(), Stop>
+fn walk_owned_statement(walk: &mut TypeChecker, statement: &Statement) -> Result<(), Stop>
     requires sound { IsSoundWalk walk.old }
     requires wf { IsWellFormedStatement (statement_of statement.now) }
     ensures grows { Grows walk.old walk.new }
@@ -106,7 +91,7 @@ fn walk_owned_statement(walk: &mut Walk, statement: &Statement) -> Result<(), St
 
 /// Walks a statement and pushes the context entry of the binder that it makes, if any. Returns that entry.
 pub(crate) fn walk_statement(
-    walk: &mut Walk,
+    walk: &mut TypeChecker,
     statement: &InternedStatement<'_>,
 ) -> Result<Option<TyNo>, Stop>
     requires sound { IsSoundWalk walk.old }
@@ -139,7 +124,7 @@ pub(crate) fn walk_statement(
 
 /// Walks a term, whose subterms all come after those found so far, and returns its type.
 #[cycle(walk_term)]
-fn walk_term(walk: &mut Walk, term: &InternedTerm<'_>) -> Result<Option<TyNo>, Stop>
+fn walk_term(walk: &mut TypeChecker, term: &InternedTerm<'_>) -> Result<Option<TyNo>, Stop>
     requires sound { IsSoundWalk walk.old }
     requires stand { StandIn walk.old.table term.now }
     ensures grows { Grows walk.old walk.new }
@@ -173,7 +158,7 @@ fn walk_term(walk: &mut Walk, term: &InternedTerm<'_>) -> Result<Option<TyNo>, S
 
 #[cycle(walk_term)]
 fn walk_if(
-    walk: &mut Walk,
+    walk: &mut TypeChecker,
     condition: &InternedTerm<'_>,
     then_term: &InternedTerm<'_>,
     else_term: &InternedTerm<'_>,
@@ -204,7 +189,7 @@ fn walk_if(
 /// T-Succ, T-Pred and T-IsZero, given the id of the type of the whole term.
 #[cycle(walk_term)]
 fn walk_number(
-    walk: &mut Walk,
+    walk: &mut TypeChecker,
     operand: &InternedTerm<'_>,
     outcome: TyNo,
 ) -> Result<Option<TyNo>, Stop>
@@ -223,7 +208,7 @@ fn walk_number(
 
 #[cycle(walk_term)]
 fn walk_lambda(
-    walk: &mut Walk,
+    walk: &mut TypeChecker,
     written: Option<TyNo>,
     body: &InternedTerm<'_>,
 ) -> Result<Option<TyNo>, Stop>
@@ -244,7 +229,7 @@ fn walk_lambda(
 
 #[cycle(walk_term)]
 fn walk_apply(
-    walk: &mut Walk,
+    walk: &mut TypeChecker,
     function: &InternedTerm<'_>,
     argument: &InternedTerm<'_>,
 ) -> Result<Option<TyNo>, Stop>
@@ -264,7 +249,7 @@ fn walk_apply(
 
 #[cycle(walk_term)]
 fn walk_ascribe(
-    walk: &mut Walk,
+    walk: &mut TypeChecker,
     operand: &InternedTerm<'_>,
     written: Option<TyNo>,
 ) -> Result<Option<TyNo>, Stop>
@@ -282,7 +267,7 @@ fn walk_ascribe(
 
 #[cycle(walk_term)]
 fn walk_let(
-    walk: &mut Walk,
+    walk: &mut TypeChecker,
     bound: &InternedTerm<'_>,
     body: &InternedTerm<'_>,
 ) -> Result<Option<TyNo>, Stop>
@@ -300,7 +285,7 @@ fn walk_let(
 }
 
 #[cycle(walk_term)]
-fn walk_record(walk: &mut Walk, fields: &[InternedField<'_>]) -> Result<Option<TyNo>, Stop>
+fn walk_record(walk: &mut TypeChecker, fields: &[InternedField<'_>]) -> Result<Option<TyNo>, Stop>
     requires sound { IsSoundWalk walk.old }
     requires fields { StandInTerms walk.old.table fields.now }
     ensures grows { Grows walk.old walk.new }
@@ -315,7 +300,7 @@ fn walk_record(walk: &mut Walk, fields: &[InternedField<'_>]) -> Result<Option<T
 
 #[cycle(walk_term)]
 fn walk_project(
-    walk: &mut Walk,
+    walk: &mut TypeChecker,
     operand: &InternedTerm<'_>,
     label: &str,
 ) -> Result<Option<TyNo>, Stop>
@@ -331,7 +316,7 @@ fn walk_project(
 }
 
 #[cycle(walk_term)]
-fn walk_fix(walk: &mut Walk, operand: &InternedTerm<'_>) -> Result<Option<TyNo>, Stop>
+fn walk_fix(walk: &mut TypeChecker, operand: &InternedTerm<'_>) -> Result<Option<TyNo>, Stop>
     requires sound { IsSoundWalk walk.old }
     requires operand { StandIn walk.old.table operand.now }
     ensures grows { Grows walk.old walk.new }
@@ -347,7 +332,7 @@ fn walk_fix(walk: &mut Walk, operand: &InternedTerm<'_>) -> Result<Option<TyNo>,
 /// of them have.
 #[cycle(walk_term)]
 fn walk_fields(
-    walk: &mut Walk,
+    walk: &mut TypeChecker,
     fields: &[InternedField<'_>],
     parts: &mut Vec<(String, TyNo)>,
 ) -> Result<bool, Stop>
@@ -371,7 +356,7 @@ fn walk_fields(
 
 /// Walks a variable, which has the entry of its binder; if that is `None`, the variable is not at fault. An index past all
 /// binders is an unbound name.
-fn walk_variable(walk: &mut Walk, index: usize) -> Result<Option<TyNo>, Stop>
+fn walk_variable(walk: &mut TypeChecker, index: usize) -> Result<Option<TyNo>, Stop>
     requires sound { IsSoundWalk walk.old }
     ensures grows { Grows walk.old walk.new }
     ensures walked { HasWalked result walk.old walk.new (variable index) }
@@ -438,7 +423,7 @@ fn blame_if(parts: bool, found: Option<TyNo>, code: &'static str) -> Option<&'st
 
 /// Records the type of the next subterm, and its fault if any.
 fn settle(
-    walk: &mut Walk,
+    walk: &mut TypeChecker,
     found: Option<TyNo>,
     blame: Option<&'static str>,
 ) -> Result<Option<TyNo>, Stop>

@@ -1,4 +1,4 @@
-use Rattle.std.proofs.Common.{◌++◌, map, ◌∙◌}
+use Rattle.std.proofs.Common.{◌++◌, map, refl, ◌∙◌}
 use Rattle.lam_syntax.specs.Views.{command_of}
 use Rattle.lam_typing.specs.Walk.{blames_of}
 use Rattle.lam_query.specs.TextFaults.{written_fault}
@@ -13,13 +13,15 @@ returns-in-Err-TooLarge-clause-found c b names others seen bound =
 
 pub returns-then-not-checked-clause-found : goal.returns-then-not-checked-clause-found
 returns-then-not-checked-clause-found c b names others seen bound =
+    let checked = rw c.deref.ensures.value at c.in_ok-checked.ensures.checked in
     large_term names others _ _ _ bound _ _ c.in-Ok.stated c.in_ok-checked.checked _ _ (c.in-Ok.ensures.stated b seen) (c.in-Ok.ensures.limit b seen)
-    c.in_ok-checked.ensures.checked c.state_command.ensures.dialect c.len.result c.in_ok-span.span
+    checked c.state_command.ensures.dialect c.len.result c.in_ok-span.span
     (c.len.ensures ∙ c.in_ok-checked.checked.types.ok.0) c.in_ok-span.ensures c.if-not-checked.true
 
 pub returns-clause-found : goal.returns-clause-found
 returns-clause-found c b names others seen bound =
+    let checked = rw c.deref.ensures.value at c.in_ok-checked.ensures.checked in
     all_types names others _ _ _ bound _ _ c.in-Ok.stated c.in_ok-checked.checked _ _ (c.in-Ok.ensures.stated b seen) (c.in-Ok.ensures.limit b seen)
-    c.in_ok-checked.ensures.checked c.state_command.ensures.dialect _ c.check.ensures.keeps c.shrink_to_fit.ensures.items c.bound_number.ensures
-    (c.in_ok-faults.ensures ∙ (λ i. map written_fault (c.deref.ensures.value i) ++ map (own_fault (command_of c.args.command.now)) (blames_of (c.deref-2.ensures.value i))))
+    checked c.state_command.ensures.dialect _ c.check.ensures.keeps refl c.bound_number.ensures
+    (c.in_ok-faults.ensures ∙ (λ i. map written_fault (c.deref-2.ensures.value i) ++ map (own_fault (command_of c.args.command.now)) (blames_of (c.deref-3.ensures.value i))))
     c.if-not-checked.false
