@@ -29,9 +29,9 @@ pub numbered_of-False : numbered_of False ≡ false_term
 unfolding numbered_of
 numbered_of-False = ap numbered_of (sym rolls-False) ∙ fold-roll-InternedTerm Numbered (Label × Numbered) numbered_step numbered_field_step InternedTerm-F.False
 
-pub numbered_of-If : (c : Box InternedTerm Global) (a : Box InternedTerm Global) (b : Box InternedTerm Global) → numbered_of (If c a b) ≡ if_then_else (numbered_of c.value) (numbered_of a.value) (numbered_of b.value)
+pub numbered_of-If : (p : Box (InternedTerm × InternedTerm × InternedTerm) Global) → numbered_of (If p) ≡ if_then_else (numbered_of p.value.0) (numbered_of p.value.1) (numbered_of p.value.2)
 unfolding numbered_of
-numbered_of-If c a b = ap numbered_of (sym (rolls-If c a b)) ∙ fold-roll-InternedTerm Numbered (Label × Numbered) numbered_step numbered_field_step (InternedTerm-F.If c a b)
+numbered_of-If p = ap numbered_of (sym (rolls-If p)) ∙ fold-roll-InternedTerm Numbered (Label × Numbered) numbered_step numbered_field_step (InternedTerm-F.If p)
 
 pub numbered_of-Num : (s : Bor (List ℕ)) → numbered_of (Num s) ≡ numeral s.now
 unfolding numbered_of
@@ -61,9 +61,9 @@ pub numbered_of-Abs : (w : Option TyNo) (e : Box InternedTerm Global) → number
 unfolding numbered_of
 numbered_of-Abs w e = ap numbered_of (sym (rolls-Abs w e)) ∙ fold-roll-InternedTerm Numbered (Label × Numbered) numbered_step numbered_field_step (InternedTerm-F.Abs w e)
 
-pub numbered_of-App : (f : Box InternedTerm Global) (a : Box InternedTerm Global) → numbered_of (App f a) ≡ apply (numbered_of f.value) (numbered_of a.value)
+pub numbered_of-App : (p : Box (InternedTerm × InternedTerm) Global) → numbered_of (App p) ≡ apply (numbered_of p.value.0) (numbered_of p.value.1)
 unfolding numbered_of
-numbered_of-App f a = ap numbered_of (sym (rolls-App f a)) ∙ fold-roll-InternedTerm Numbered (Label × Numbered) numbered_step numbered_field_step (InternedTerm-F.App f a)
+numbered_of-App p = ap numbered_of (sym (rolls-App p)) ∙ fold-roll-InternedTerm Numbered (Label × Numbered) numbered_step numbered_field_step (InternedTerm-F.App p)
 
 pub numbered_of-Unit : numbered_of UnitTerm ≡ unit_term
 unfolding numbered_of
@@ -73,9 +73,9 @@ pub numbered_of-Ascribe : (e : Box InternedTerm Global) (w : Option TyNo) → nu
 unfolding numbered_of
 numbered_of-Ascribe e w = ap numbered_of (sym (rolls-Ascribe e w)) ∙ fold-roll-InternedTerm Numbered (Label × Numbered) numbered_step numbered_field_step (InternedTerm-F.Ascribe e w)
 
-pub numbered_of-Let : (a : Box InternedTerm Global) (b : Box InternedTerm Global) → numbered_of (Let a b) ≡ let_in (numbered_of a.value) (numbered_of b.value)
+pub numbered_of-Let : (p : Box (InternedTerm × InternedTerm) Global) → numbered_of (Let p) ≡ let_in (numbered_of p.value.0) (numbered_of p.value.1)
 unfolding numbered_of
-numbered_of-Let a b = ap numbered_of (sym (rolls-Let a b)) ∙ fold-roll-InternedTerm Numbered (Label × Numbered) numbered_step numbered_field_step (InternedTerm-F.Let a b)
+numbered_of-Let p = ap numbered_of (sym (rolls-Let p)) ∙ fold-roll-InternedTerm Numbered (Label × Numbered) numbered_step numbered_field_step (InternedTerm-F.Let p)
 
 pub numbered_of-Record : (fs : Vec InternedField Global) → numbered_of (Record fs) ≡ record_term (numbered_terms fs.items)
 unfolding numbered_of
@@ -97,8 +97,8 @@ interned_term-True ts = ap (term_over ts) numbered_of-True
 pub interned_term-False : (ts : List Typ) → interned_term ts False ≡ rules.false_term
 interned_term-False ts = ap (term_over ts) numbered_of-False
 
-pub interned_term-If : (ts : List Typ) (c : Box InternedTerm Global) (a : Box InternedTerm Global) (b : Box InternedTerm Global) → interned_term ts (If c a b) ≡ rules.if_then_else (interned_term ts c.value) (interned_term ts a.value) (interned_term ts b.value)
-interned_term-If ts c a b = ap (term_over ts) (numbered_of-If c a b)
+pub interned_term-If : (ts : List Typ) (p : Box (InternedTerm × InternedTerm × InternedTerm) Global) → interned_term ts (If p) ≡ rules.if_then_else (interned_term ts p.value.0) (interned_term ts p.value.1) (interned_term ts p.value.2)
+interned_term-If ts p = ap (term_over ts) (numbered_of-If p)
 
 pub interned_term-Num : (ts : List Typ) (s : Bor (List ℕ)) → interned_term ts (Num s) ≡ rules.numeral s.now
 interned_term-Num ts s = ap (term_over ts) (numbered_of-Num s)
@@ -121,8 +121,8 @@ interned_term-Free ts s = ap (term_over ts) (numbered_of-Free s)
 pub interned_term-Abs : (ts : List Typ) (w : Option TyNo) (e : Box InternedTerm Global) → interned_term ts (Abs w e) ≡ rules.lambda (written_over ts w) (interned_term ts e.value)
 interned_term-Abs ts w e = ap (term_over ts) (numbered_of-Abs w e)
 
-pub interned_term-App : (ts : List Typ) (f : Box InternedTerm Global) (a : Box InternedTerm Global) → interned_term ts (App f a) ≡ rules.apply (interned_term ts f.value) (interned_term ts a.value)
-interned_term-App ts f a = ap (term_over ts) (numbered_of-App f a)
+pub interned_term-App : (ts : List Typ) (p : Box (InternedTerm × InternedTerm) Global) → interned_term ts (App p) ≡ rules.apply (interned_term ts p.value.0) (interned_term ts p.value.1)
+interned_term-App ts p = ap (term_over ts) (numbered_of-App p)
 
 pub interned_term-Unit : (ts : List Typ) → interned_term ts UnitTerm ≡ rules.unit_term
 interned_term-Unit ts = ap (term_over ts) numbered_of-Unit
@@ -130,8 +130,8 @@ interned_term-Unit ts = ap (term_over ts) numbered_of-Unit
 pub interned_term-Ascribe : (ts : List Typ) (e : Box InternedTerm Global) (w : Option TyNo) → interned_term ts (Ascribe e w) ≡ rules.ascribe (interned_term ts e.value) (written_over ts w)
 interned_term-Ascribe ts e w = ap (term_over ts) (numbered_of-Ascribe e w)
 
-pub interned_term-Let : (ts : List Typ) (a : Box InternedTerm Global) (b : Box InternedTerm Global) → interned_term ts (Let a b) ≡ rules.let_in (interned_term ts a.value) (interned_term ts b.value)
-interned_term-Let ts a b = ap (term_over ts) (numbered_of-Let a b)
+pub interned_term-Let : (ts : List Typ) (p : Box (InternedTerm × InternedTerm) Global) → interned_term ts (Let p) ≡ rules.let_in (interned_term ts p.value.0) (interned_term ts p.value.1)
+interned_term-Let ts p = ap (term_over ts) (numbered_of-Let p)
 
 pub interned_term-Record : (ts : List Typ) (fs : Vec InternedField Global) → interned_term ts (Record fs) ≡ rules.record_term (interned_terms ts fs.items)
 interned_term-Record ts fs = ap (term_over ts) (numbered_of-Record fs)

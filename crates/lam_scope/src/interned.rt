@@ -3,14 +3,14 @@
 use lam_rules::TyNo;
 
 /// A nameless term of a command. Borrows the letters of its names from the command; a written type is the id of what it stands
-/// for in a type table.
+/// for in a type table. Several terms of one term are in one box.
 #[cycle(interned)]
 #[derive(Drop)]
 pub enum InternedTerm<'t> {
     True,
     False,
     /// Condition, then-branch and else-branch.
-    If(Box<InternedTerm<'t>>, Box<InternedTerm<'t>>, Box<InternedTerm<'t>>),
+    If(Box<(InternedTerm<'t>, InternedTerm<'t>, InternedTerm<'t>)>),
     /// A numeral, as its digits.
     Num(&'t str),
     Succ(Box<InternedTerm<'t>>),
@@ -23,12 +23,12 @@ pub enum InternedTerm<'t> {
     /// The id of the parameter's type, or `None` where the written type stands for no type, and the body.
     Abs(Option<TyNo>, Box<InternedTerm<'t>>),
     /// A function and its argument.
-    App(Box<InternedTerm<'t>>, Box<InternedTerm<'t>>),
+    App(Box<(InternedTerm<'t>, InternedTerm<'t>)>),
     Unit,
     /// A term and the type ascribed to it, as in `Abs`.
     Ascribe(Box<InternedTerm<'t>>, Option<TyNo>),
     /// The bound term and the body.
-    Let(Box<InternedTerm<'t>>, Box<InternedTerm<'t>>),
+    Let(Box<(InternedTerm<'t>, InternedTerm<'t>)>),
     Record(Vec<InternedField<'t>>),
     /// A term and the label projected from it.
     Proj(Box<InternedTerm<'t>>, &'t str),

@@ -19,10 +19,8 @@ pub(crate) fn make_if<'a>(
 ) -> Result<InternedTerm<'a>, AllocError>
     ensures { IfOk result (λ made. numbered_of made ≡ if_then_else (numbered_of condition.entry) (numbered_of then_term.entry) (numbered_of else_term.entry)) }
 {
-    let first = Box::new(alloc, condition)?;
-    let second = Box::new(alloc, then_term)?;
-    let third = Box::new(alloc, else_term)?;
-    Ok(InternedTerm::If(first, second, third))
+    let parts = (condition, then_term, else_term);
+    Ok(InternedTerm::If(Box::new(alloc, parts)?))
 }
 
 /// Makes a lambda. `written` is the id of the parameter's type, or `None` if the written type stands for no type.
@@ -46,9 +44,8 @@ pub(crate) fn make_application<'a>(
 ) -> Result<InternedTerm<'a>, AllocError>
     ensures { IfOk result (λ made. numbered_of made ≡ apply (numbered_of function.entry) (numbered_of argument.entry)) }
 {
-    let first = Box::new(alloc, function)?;
-    let second = Box::new(alloc, argument)?;
-    Ok(InternedTerm::App(first, second))
+    let parts = (function, argument);
+    Ok(InternedTerm::App(Box::new(alloc, parts)?))
 }
 
 /// Makes an ascription. `written` is as for a lambda.
@@ -72,9 +69,8 @@ pub(crate) fn make_let<'a>(
 ) -> Result<InternedTerm<'a>, AllocError>
     ensures { IfOk result (λ made. numbered_of made ≡ let_in (numbered_of bound.entry) (numbered_of body.entry)) }
 {
-    let first = Box::new(alloc, bound)?;
-    let second = Box::new(alloc, body)?;
-    Ok(InternedTerm::Let(first, second))
+    let parts = (bound, body);
+    Ok(InternedTerm::Let(Box::new(alloc, parts)?))
 }
 
 /// Makes what `letrec x:T = bound in body` stands for, as `lam_rules` does.

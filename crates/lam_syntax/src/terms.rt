@@ -304,11 +304,9 @@ pub(crate) fn make_ascribe(alloc: Global, term: Tm, ty: WrittenTy) -> Result<Tm,
 
 /// Makes a record of these fields, given the spans of its braces.
 #[tactic(auto, using(crate::proofs::Shapes::term_shapes))]
-pub(crate) fn make_record(first: Span, last: Span, mut fields: Vec<TmField>) -> Tm
+pub(crate) fn make_record(first: Span, last: Span, fields: Vec<TmField>) -> Tm
     ensures { term_of result ≡ term_tree (from_to first last) (record_term (fields_of fields.items)) }
 {
-    // Up to half the capacity of a grown vector is unused, and a document has thousands of records.
-    fields.shrink_to_fit();
     Tm {
         span: from_to(first, last),
         node: TmNode::Record(fields),

@@ -84,11 +84,9 @@ pub(crate) fn make_arrow(
 
 /// Makes a record type of these fields, given the spans of its braces.
 #[tactic(auto, using(crate::proofs::Shapes::type_shapes))]
-pub(crate) fn make_record_type(first: Span, last: Span, mut fields: Vec<TyField>) -> WrittenTy
+pub(crate) fn make_record_type(first: Span, last: Span, fields: Vec<TyField>) -> WrittenTy
     ensures { type_of result ≡ type_tree (from_to first last) (record_type (type_fields_of fields.items)) }
 {
-    // Up to half the capacity of a grown vector is unused, and a document has thousands of record types.
-    fields.shrink_to_fit();
     WrittenTy {
         span: from_to(first, last),
         node: TyNode::Record(fields),

@@ -23,11 +23,12 @@ pub fn first_token<'a>(text: &'a str, start: usize) -> Option<(Token<'a>, &'a st
     let mut rest = text;
     let mut offset = start;
     while let Some((segment, after)) = next_segment(rest) {
-        let (front, _) = rest.split_at(rest.len() - after.len());
+        let bytes = rest.len() - after.len();
         if let Segment::Token(kind) = segment {
+            let (front, _) = rest.split_at(bytes);
             return Some((token_at(kind, front, offset), after));
         }
-        offset += front.len();
+        offset += bytes;
         rest = after;
     }
     None

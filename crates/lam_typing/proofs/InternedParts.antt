@@ -70,9 +70,10 @@ module _ (ts : List Typ) where
   pub form_fix : (p : Box InternedTerm Global) {e : Term} → IsForm ts p.value e → IsForm ts (Fix p) (rules.fix e)
   form_fix p {e = e} is = by_shape ts (Fix p) (fix (numbered_of p.value)) (rules.fix e) (numbered_of-Fix p) is.stand (ap rules.fix is.same)
 
-  pub form_if : (x y z : Box InternedTerm Global) {a b c : Term} → IsForm ts x.value a → IsForm ts y.value b → IsForm ts z.value c → IsForm ts (If x y z) (rules.if_then_else a b c)
-  form_if x y z {a = a} {b = b} {c = c} one two three =
-      by_shape ts (If x y z) (if_then_else (numbered_of x.value) (numbered_of y.value) (numbered_of z.value)) (rules.if_then_else a b c) (numbered_of-If x y z)
+  pub form_if : (p : Box (InternedTerm × InternedTerm × InternedTerm) Global) (x y z : InternedTerm) {a b c : Term} → p.value ≡ (x, y, z) → IsForm ts x a → IsForm ts y b → IsForm ts z c → IsForm ts (If p) (rules.if_then_else a b c)
+  form_if p x y z {a = a} {b = b} {c = c} is one two three =
+      by_shape ts (If p) (if_then_else (numbered_of x) (numbered_of y) (numbered_of z)) (rules.if_then_else a b c)
+      (numbered_of-If p ∙ ap (λ v. if_then_else (numbered_of v.0) (numbered_of v.1) (numbered_of v.2)) is)
       (one.stand, two.stand, three.stand) (λ i. rules.if_then_else (one.same i) (two.same i) (three.same i))
 
   pub form_lambda : (number : Option TyNo) (x : Box InternedTerm Global) {w : Option Typ} {e : Term} → IsNumbered ts number w → IsForm ts x.value e → IsForm ts (Abs number x) (rules.lambda w e)
@@ -80,14 +81,14 @@ module _ (ts : List Typ) where
       by_shape ts (Abs number x) (lambda number (numbered_of x.value)) (rules.lambda w e) (numbered_of-Abs number x)
       (one.stands, two.stand) (λ i. rules.lambda (one.entry i) (two.same i))
 
-  pub form_apply : (x y : Box InternedTerm Global) {a b : Term} → IsForm ts x.value a → IsForm ts y.value b → IsForm ts (App x y) (rules.apply a b)
-  form_apply x y {a = a} {b = b} one two =
-      by_shape ts (App x y) (apply (numbered_of x.value) (numbered_of y.value)) (rules.apply a b) (numbered_of-App x y)
+  pub form_apply : (p : Box (InternedTerm × InternedTerm) Global) (x y : InternedTerm) {a b : Term} → p.value ≡ (x, y) → IsForm ts x a → IsForm ts y b → IsForm ts (App p) (rules.apply a b)
+  form_apply p x y {a = a} {b = b} is one two =
+      by_shape ts (App p) (apply (numbered_of x) (numbered_of y)) (rules.apply a b) (numbered_of-App p ∙ ap (λ v. apply (numbered_of v.0) (numbered_of v.1)) is)
       (one.stand, two.stand) (λ i. rules.apply (one.same i) (two.same i))
 
-  pub form_let : (x y : Box InternedTerm Global) {a b : Term} → IsForm ts x.value a → IsForm ts y.value b → IsForm ts (Let x y) (rules.let_in a b)
-  form_let x y {a = a} {b = b} one two =
-      by_shape ts (Let x y) (let_in (numbered_of x.value) (numbered_of y.value)) (rules.let_in a b) (numbered_of-Let x y)
+  pub form_let : (p : Box (InternedTerm × InternedTerm) Global) (x y : InternedTerm) {a b : Term} → p.value ≡ (x, y) → IsForm ts x a → IsForm ts y b → IsForm ts (Let p) (rules.let_in a b)
+  form_let p x y {a = a} {b = b} is one two =
+      by_shape ts (Let p) (let_in (numbered_of x) (numbered_of y)) (rules.let_in a b) (numbered_of-Let p ∙ ap (λ v. let_in (numbered_of v.0) (numbered_of v.1)) is)
       (one.stand, two.stand) (λ i. rules.let_in (one.same i) (two.same i))
 
   pub form_ascribe : (x : Box InternedTerm Global) (number : Option TyNo) {w : Option Typ} {e : Term} → IsForm ts x.value e → IsNumbered ts number w → IsForm ts (Ascribe x number) (rules.ascribe e w)

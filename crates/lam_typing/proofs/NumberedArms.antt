@@ -11,9 +11,9 @@ use Rattle.lam_scope.specs.declared.interned.InternedField.{InternedField}
 use Rattle.lam_scope.specs.declared.interned.InternedTerm.TheVariants.{If, Succ, Pred, IsZero, Abs, App, Ascribe, Let, Record, Proj, Fix}
 use Rattle.lam_scope.proofs.InternedShapes.{numbered_of-If, numbered_of-Succ, numbered_of-Pred, numbered_of-IsZero, numbered_of-Abs, numbered_of-App, numbered_of-Ascribe, numbered_of-Let, numbered_of-Record, numbered_of-Proj, numbered_of-Fix}
 
-pub if_arm : (e : InternedTerm) (x y z : Box InternedTerm Global) (a b d : InternedTerm) → e ≡ If x y z → a ≡ x.value → b ≡ y.value → d ≡ z.value
-    → numbered_of e ≡ if_then_else (numbered_of a) (numbered_of b) (numbered_of d)
-if_arm e x y z a b d is p q r = ap numbered_of is ∙ numbered_of-If x y z ∙ (λ i. if_then_else (numbered_of (sym p i)) (numbered_of (sym q i)) (numbered_of (sym r i)))
+pub if_arm : (e : InternedTerm) (parts : Box (InternedTerm × InternedTerm × InternedTerm) Global) (a b d : InternedTerm × InternedTerm × InternedTerm) → e ≡ If parts → a ≡ parts.value → b ≡ parts.value → d ≡ parts.value
+    → numbered_of e ≡ if_then_else (numbered_of a.0) (numbered_of b.1) (numbered_of d.2)
+if_arm e parts a b d is x y z = ap numbered_of is ∙ numbered_of-If parts ∙ (λ i. if_then_else (numbered_of (sym x i).0) (numbered_of (sym y i).1) (numbered_of (sym z i).2))
 
 pub succ_arm : (e : InternedTerm) (part : Box InternedTerm Global) (a : InternedTerm) → e ≡ Succ part → a ≡ part.value → numbered_of e ≡ succ (numbered_of a)
 succ_arm e part a is x = ap numbered_of is ∙ numbered_of-Succ part ∙ (λ i. succ (numbered_of (sym x i)))
@@ -28,15 +28,17 @@ pub lambda_arm : (e : InternedTerm) (w : Option TyNo) (part : Box InternedTerm G
     → numbered_of e ≡ lambda w (numbered_of a)
 lambda_arm e w part a is x = ap numbered_of is ∙ numbered_of-Abs w part ∙ (λ i. lambda w (numbered_of (sym x i)))
 
-pub apply_arm : (e : InternedTerm) (x y : Box InternedTerm Global) (a b : InternedTerm) → e ≡ App x y → a ≡ x.value → b ≡ y.value → numbered_of e ≡ apply (numbered_of a) (numbered_of b)
-apply_arm e x y a b is p q = ap numbered_of is ∙ numbered_of-App x y ∙ (λ i. apply (numbered_of (sym p i)) (numbered_of (sym q i)))
+pub apply_arm : (e : InternedTerm) (parts : Box (InternedTerm × InternedTerm) Global) (a b : InternedTerm × InternedTerm) → e ≡ App parts → a ≡ parts.value → b ≡ parts.value
+    → numbered_of e ≡ apply (numbered_of a.0) (numbered_of b.1)
+apply_arm e parts a b is x y = ap numbered_of is ∙ numbered_of-App parts ∙ (λ i. apply (numbered_of (sym x i).0) (numbered_of (sym y i).1))
 
 pub ascribe_arm : (e : InternedTerm) (part : Box InternedTerm Global) (w : Option TyNo) (a : InternedTerm) → e ≡ Ascribe part w → a ≡ part.value
     → numbered_of e ≡ ascribe (numbered_of a) w
 ascribe_arm e part w a is x = ap numbered_of is ∙ numbered_of-Ascribe part w ∙ (λ i. ascribe (numbered_of (sym x i)) w)
 
-pub let_arm : (e : InternedTerm) (x y : Box InternedTerm Global) (a b : InternedTerm) → e ≡ Let x y → a ≡ x.value → b ≡ y.value → numbered_of e ≡ let_in (numbered_of a) (numbered_of b)
-let_arm e x y a b is p q = ap numbered_of is ∙ numbered_of-Let x y ∙ (λ i. let_in (numbered_of (sym p i)) (numbered_of (sym q i)))
+pub let_arm : (e : InternedTerm) (parts : Box (InternedTerm × InternedTerm) Global) (a b : InternedTerm × InternedTerm) → e ≡ Let parts → a ≡ parts.value → b ≡ parts.value
+    → numbered_of e ≡ let_in (numbered_of a.0) (numbered_of b.1)
+let_arm e parts a b is x y = ap numbered_of is ∙ numbered_of-Let parts ∙ (λ i. let_in (numbered_of (sym x i).0) (numbered_of (sym y i).1))
 
 pub record_arm : (e : InternedTerm) (fields : Vec InternedField Global) (fs : List InternedField) → e ≡ Record fields → fs ≡ fields.items → numbered_of e ≡ record_term (numbered_terms fs)
 record_arm e fields fs is x = ap numbered_of is ∙ numbered_of-Record fields ∙ (λ i. record_term (numbered_terms (sym x i)))

@@ -105,10 +105,11 @@ fn intern_if<'t>(
     ensures keeps { Keeps table.old table.new }
     ensures form { IfOk result (λ form. IsForm table.new form (if_then_else (term_of condition.now) (term_of then_term.now) (term_of else_term.now))) }
 {
-    let first = intern_part(alloc, table, condition)?;
-    let second = intern_part(alloc, table, then_term)?;
-    let third = intern_part(alloc, table, else_term)?;
-    Ok(InternedTerm::If(first, second, third))
+    let first = intern_term(alloc, table, condition)?;
+    let second = intern_term(alloc, table, then_term)?;
+    let third = intern_term(alloc, table, else_term)?;
+    let parts = Box::new(alloc, (first, second, third))?;
+    Ok(InternedTerm::If(parts))
 }
 
 #[cycle(intern_term)]
@@ -140,9 +141,10 @@ fn intern_apply<'t>(
     ensures keeps { Keeps table.old table.new }
     ensures form { IfOk result (λ form. IsForm table.new form (apply (term_of function.now) (term_of argument.now))) }
 {
-    let first = intern_part(alloc, table, function)?;
-    let second = intern_part(alloc, table, argument)?;
-    Ok(InternedTerm::App(first, second))
+    let first = intern_term(alloc, table, function)?;
+    let second = intern_term(alloc, table, argument)?;
+    let parts = Box::new(alloc, (first, second))?;
+    Ok(InternedTerm::App(parts))
 }
 
 #[cycle(intern_term)]
@@ -174,9 +176,10 @@ fn intern_let<'t>(
     ensures keeps { Keeps table.old table.new }
     ensures form { IfOk result (λ form. IsForm table.new form (let_in (term_of bound.now) (term_of body.now))) }
 {
-    let first = intern_part(alloc, table, bound)?;
-    let second = intern_part(alloc, table, body)?;
-    Ok(InternedTerm::Let(first, second))
+    let first = intern_term(alloc, table, bound)?;
+    let second = intern_term(alloc, table, body)?;
+    let parts = Box::new(alloc, (first, second))?;
+    Ok(InternedTerm::Let(parts))
 }
 
 #[cycle(intern_term)]

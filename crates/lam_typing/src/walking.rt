@@ -133,9 +133,7 @@ fn walk_term(walk: &mut TypeChecker, term: &InternedTerm<'_>) -> Result<Option<T
     match term {
         InternedTerm::True => settle(walk, Some(walk.leaves.boolean), None),
         InternedTerm::False => settle(walk, Some(walk.leaves.boolean), None),
-        InternedTerm::If(condition, then_term, else_term) => {
-            walk_if(walk, condition, then_term, else_term)
-        }
+        InternedTerm::If(parts) => walk_if(walk, &parts.0, &parts.1, &parts.2),
         InternedTerm::Num(_) => settle(walk, Some(walk.leaves.natural), None),
         InternedTerm::Succ(operand) => walk_number(walk, operand, walk.leaves.natural),
         InternedTerm::Pred(operand) => walk_number(walk, operand, walk.leaves.natural),
@@ -146,10 +144,10 @@ fn walk_term(walk: &mut TypeChecker, term: &InternedTerm<'_>) -> Result<Option<T
             settle(walk, None, blame)
         }
         InternedTerm::Abs(written, body) => walk_lambda(walk, *written, body),
-        InternedTerm::App(function, argument) => walk_apply(walk, function, argument),
+        InternedTerm::App(parts) => walk_apply(walk, &parts.0, &parts.1),
         InternedTerm::Unit => settle(walk, Some(walk.leaves.unit), None),
         InternedTerm::Ascribe(operand, written) => walk_ascribe(walk, operand, *written),
-        InternedTerm::Let(bound, body) => walk_let(walk, bound, body),
+        InternedTerm::Let(parts) => walk_let(walk, &parts.0, &parts.1),
         InternedTerm::Record(fields) => walk_record(walk, fields),
         InternedTerm::Proj(operand, label) => walk_project(walk, operand, label),
         InternedTerm::Fix(operand) => walk_fix(walk, operand),

@@ -1,4 +1,5 @@
-use Rattle.std.proofs.Common.{ℕ, ◌+◌, List, length, ◌∙◌, ap, arith}
+use Rattle.std.proofs.Common.{◌≡◌, ℕ, ◌+◌, ◌-◌, List, length, ◌∙◌, ap, arith}
+use Rattle.std.specs.Prelude.{encode_utf8_all}
 use Rattle.lam_token.specs.Lexeme.{end_of}
 use Rattle.lam_token.proofs.Reading.{cut_behind, take_front, length_front}
 use Rattle.lam_token.proofs.Cuts.{stands_further, rest_of_text, segment_alone, skip_more, token_first, none_left, segment_shorter}
@@ -16,14 +17,15 @@ loop-segment-smaller c = segment_shorter _ _ _ c.in-Some.ensures
 
 pub loop-segment-preserved : goal.loop-segment-preserved
 loop-segment-preserved c =
-    let front = c.split_at.ensures.front ∙ take_front _ _ _ c.in-Some.ensures.front in
-    let whole = length_front _ _ _ c.in-Some.ensures.front in
-    let next = ap (λ (l : List ℕ). c.loop-segment.offset + length l) front in
+    let read = c.in-Some.ensures in
+    let whole = length_front _ _ _ read.front in
+    let next : c.loop-segment.offset + (length c.loop-segment.rest.now - length c.in-Some.after.now) ≡ c.loop-segment.offset + length (encode_utf8_all read.segment) =
+    omega (arith, whole) in
     record {
-      is_text = c.in-Some.ensures.front.is_text;
-      place = omega (arith, next, whole, c.loop-segment.invariant.place);
-      stands = stands_further _ _ _ _ _ _ _ c.in-Some.ensures next c.loop-segment.invariant.stands;
-      skips = skip_more _ _ _ _ _ _ _ c.in-Some.ensures c.in_default-segment.not-Token next c.loop-segment.invariant.skips;
+      is_text = read.front.is_text;
+      place = omega (arith, whole, c.loop-segment.invariant.place);
+      stands = stands_further _ _ _ _ _ _ _ read next c.loop-segment.invariant.stands;
+      skips = skip_more _ _ _ _ _ _ _ read c.in_default-segment.not-Token next c.loop-segment.invariant.skips;
     }
 
 pub returns-in-Token-clause-first : goal.returns-in-Token-clause-first

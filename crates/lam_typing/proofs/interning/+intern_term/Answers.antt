@@ -132,8 +132,8 @@ intern_term-returns-in-Proj-clause-form t c =
 
 pub intern_if-returns-clause-form : goal.intern_if-returns-clause-form
 intern_if-returns-clause-form t c =
-    let second = keeps_trans c.intern_part.new.table c.intern_part-2.new.table c.intern_part-3.new.table c.in_ok-second.ensures.keeps c.in_ok-third.ensures.keeps in
-    form_if c.intern_part-3.new.table c.in_ok-first.first c.in_ok-second.second c.in_ok-third.third
+    let second = keeps_trans c.intern_term.new.table c.intern_term-2.new.table c.intern_term-3.new.table c.in_ok-second.ensures.keeps c.in_ok-third.ensures.keeps in
+    form_if c.intern_term-3.new.table c.in_ok-parts.parts c.in_ok-first.first c.in_ok-second.second c.in_ok-third.third c.in_ok-parts.ensures.ok
     (form_still second c.in_ok-first.ensures.form) (form_still c.in_ok-third.ensures.keeps c.in_ok-second.ensures.form) c.in_ok-third.ensures.form
 
 pub intern_lambda-returns-clause-form : goal.intern_lambda-returns-clause-form
@@ -143,11 +143,13 @@ intern_lambda-returns-clause-form t c =
 
 pub intern_apply-returns-clause-form : goal.intern_apply-returns-clause-form
 intern_apply-returns-clause-form t c =
-    form_apply c.intern_part-2.new.table c.in_ok-first.first c.in_ok-second.second (form_still c.in_ok-second.ensures.keeps c.in_ok-first.ensures.form) c.in_ok-second.ensures.form
+    form_apply c.intern_term-2.new.table c.in_ok-parts.parts c.in_ok-first.first c.in_ok-second.second c.in_ok-parts.ensures.ok
+    (form_still c.in_ok-second.ensures.keeps c.in_ok-first.ensures.form) c.in_ok-second.ensures.form
 
 pub intern_let-returns-clause-form : goal.intern_let-returns-clause-form
 intern_let-returns-clause-form t c =
-    form_let c.intern_part-2.new.table c.in_ok-first.first c.in_ok-second.second (form_still c.in_ok-second.ensures.keeps c.in_ok-first.ensures.form) c.in_ok-second.ensures.form
+    form_let c.intern_term-2.new.table c.in_ok-parts.parts c.in_ok-first.first c.in_ok-second.second c.in_ok-parts.ensures.ok
+    (form_still c.in_ok-second.ensures.keeps c.in_ok-first.ensures.form) c.in_ok-second.ensures.form
 
 pub intern_ascribe-returns-clause-form : goal.intern_ascribe-returns-clause-form
 intern_ascribe-returns-clause-form t c =

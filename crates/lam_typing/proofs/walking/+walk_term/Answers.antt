@@ -64,12 +64,12 @@ walk_term-returns-in-Var-clause-walked t c =
 
 pub walk_term-walk_if-requires : goal.walk_term-walk_if-requires
 walk_term-walk_if-requires t c =
-    let arm = if_arm _ _ _ _ _ _ _ c.in-If.is c.deref.ensures c.deref-in-If.ensures c.deref-in-If-2.ensures in
+    let arm = if_arm _ _ _ _ _ c.in-If.is c.deref.ensures c.deref-in-If.ensures c.deref-in-If-2.ensures in
     let wf = rw arm at c.requires.stand in
     (omega (arith, c.decreases, ap size_in arm), (c.requires.sound, (wf.0, (wf.1, wf.2))))
 
 pub walk_term-returns-in-If-clause-walked : goal.walk_term-returns-in-If-clause-walked
-walk_term-returns-in-If-clause-walked t c = rw (if_arm _ _ _ _ _ _ _ c.in-If.is c.deref.ensures c.deref-in-If.ensures c.deref-in-If-2.ensures) c.walk_if.ensures.walked
+walk_term-returns-in-If-clause-walked t c = rw (if_arm _ _ _ _ _ c.in-If.is c.deref.ensures c.deref-in-If.ensures c.deref-in-If-2.ensures) c.walk_if.ensures.walked
 
 pub walk_term-walk_number-requires : goal.walk_term-walk_number-requires
 walk_term-walk_number-requires t c =
@@ -106,11 +106,11 @@ walk_term-returns-in-Abs-clause-walked t c = rw (lambda_arm _ _ _ _ c.in-Abs.is 
 
 pub walk_term-walk_apply-requires : goal.walk_term-walk_apply-requires
 walk_term-walk_apply-requires t c =
-    let arm = apply_arm _ _ _ _ _ c.in-App.is c.deref-in-App.ensures c.deref-in-App-2.ensures in
+    let arm = apply_arm _ _ _ _ c.in-App.is c.deref-in-App.ensures c.deref-in-App-2.ensures in
     (omega (arith, c.decreases, ap size_in arm), (c.requires.sound, rw arm at c.requires.stand))
 
 pub walk_term-returns-in-App-clause-walked : goal.walk_term-returns-in-App-clause-walked
-walk_term-returns-in-App-clause-walked t c = rw (apply_arm _ _ _ _ _ c.in-App.is c.deref-in-App.ensures c.deref-in-App-2.ensures) c.walk_apply.ensures.walked
+walk_term-returns-in-App-clause-walked t c = rw (apply_arm _ _ _ _ c.in-App.is c.deref-in-App.ensures c.deref-in-App-2.ensures) c.walk_apply.ensures.walked
 
 pub walk_term-walk_ascribe-requires : goal.walk_term-walk_ascribe-requires
 walk_term-walk_ascribe-requires t c =
@@ -122,11 +122,11 @@ walk_term-returns-in-Ascribe-clause-walked t c = rw (ascribe_arm _ _ _ _ c.in-As
 
 pub walk_term-walk_let-requires : goal.walk_term-walk_let-requires
 walk_term-walk_let-requires t c =
-    let arm = let_arm _ _ _ _ _ c.in-Let.is c.deref-in-Let.ensures c.deref-in-Let-2.ensures in
+    let arm = let_arm _ _ _ _ c.in-Let.is c.deref-in-Let.ensures c.deref-in-Let-2.ensures in
     (omega (arith, c.decreases, ap size_in arm), (c.requires.sound, rw arm at c.requires.stand))
 
 pub walk_term-returns-in-Let-clause-walked : goal.walk_term-returns-in-Let-clause-walked
-walk_term-returns-in-Let-clause-walked t c = rw (let_arm _ _ _ _ _ c.in-Let.is c.deref-in-Let.ensures c.deref-in-Let-2.ensures) c.walk_let.ensures.walked
+walk_term-returns-in-Let-clause-walked t c = rw (let_arm _ _ _ _ c.in-Let.is c.deref-in-Let.ensures c.deref-in-Let-2.ensures) c.walk_let.ensures.walked
 
 pub walk_term-walk_record-requires : goal.walk_term-walk_record-requires
 walk_term-walk_record-requires t c =
