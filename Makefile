@@ -60,12 +60,5 @@ bench: all
 	done; done
 	for count in 10 100 1000 4000; do crates/lam_bench/out/lam_bench add-type $$count; done
 	crates/lam_bench/out/lam_bench bounds 40
-	crates/lam_bench/out/lam_bench analyse-doubled 40
-	for measure in bind-chain bind-first resolve-chain resolve-first \
-	  analyse-chain analyse-first places \
-	  list-labels list-labels-anew list-names list-names-anew; do \
-	  crates/lam_bench/out/lam_bench $$measure 10000; \
-	done
-	for count in 10 100 1000; do crates/lam_bench/out/lam_bench resolve-abbreviation $$count; done
 	python3 bench/session.py crates/lam_server/out/lam_server
 	python3 bench/corners.py crates/lam_server/out/lam_server

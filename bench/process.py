@@ -168,15 +168,27 @@ def cut(messages, part, program):
         yield seen_of(script, done, wanted, is_odd=done.stdout != answer_to(script, messages))
 
 
+def one_by_one(program):
+    """Each message is sent when the one before it is answered: a program that reads on before it answers waits for ever."""
+    script, written = talk(), b""
+    with Running(program, script) as run:
+        for number, (frame, _) in enumerate(script.sent, 1):
+            run.give(frame)
+            written += run.take(len(answer_to(script, number)) - len(written))
+        rest, status, told = run.end()
+    yield Seen(script, status, told, written + rest, ENDED, ALL)
+
+
 def reset(program):
-    """A socket as standard input, which is reset behind messages that came whole: its client left unread what was sent to it."""
-    here, there = socket.socketpair()
-    there.send(b"never read")
-    here.sendall(given_to(talk(), -1))
-    here.close()
-    with there:
-        done = subprocess.run(command_line(program, talk()), stdin=there, capture_output=True, timeout=SECONDS, check=False)
-    yield seen_of(talk(), done, DEVICE, ALL)
+    """A socket as standard input, which is reset behind any number of whole messages: its client left unread what was sent to it."""
+    for messages in range(len(talk().sent)):
+        here, there = socket.socketpair()
+        there.send(b"never read")
+        here.sendall(given_to(talk(), messages))
+        here.close()
+        with there:
+            done = subprocess.run(command_line(program, talk()), stdin=there, capture_output=True, timeout=SECONDS, check=False)
+        yield seen_of(talk(), done, DEVICE, is_odd=done.stdout != answer_to(talk(), messages))
 
 
 def device_cases():
@@ -192,7 +204,8 @@ def device_cases():
         ("standard input closed", functools.partial(broken, closes(0), DEVICE)),
         ("standard input that is a directory", functools.partial(broken, opens(0, "/", read), DEVICE)),
         ("standard input that cannot be read", functools.partial(broken, opens(0, "/dev/null", write), DEVICE)),
-        ("standard input that fails behind messages", reset),
+        ("standard input by single messages, each sent when the one before it is answered", one_by_one),
+        ("standard input that fails behind any number of messages", reset),
         ("standard input that ends at once", functools.partial(cut, 0, "border")),
         ("standard input that ends behind a message", functools.partial(cut, 2, "border")),
         ("standard input that ends in a header", functools.partial(cut, 2, "header")),

@@ -1,11 +1,10 @@
-//! Benchmarks of the libraries: `lam_bench MEASURE SIZE` builds its input, takes the time with the runtime's clock, and writes it
-//! to standard error. With fewer than two arguments it runs each measure once at a small size and writes nothing.
+//! Benchmarks of the lower libraries, which `bench/session.py` cannot time alone: `lam_bench MEASURE SIZE` builds its input, takes
+//! the time with the runtime's clock, and writes it to standard error. With fewer than two arguments it runs each measure once at
+//! a small size and writes nothing.
 #![tactic(auto)]
 
-mod documents;
 mod fault;
 mod frames;
-mod lists;
 mod measure;
 mod texts;
 mod types;

@@ -1,9 +1,7 @@
 //! The measures by name.
 
-use crate::documents::{Stage, Uses, staging};
 use crate::fault::BenchFault;
 use crate::frames::reading;
-use crate::lists::{Asked, Cursor, listing};
 use crate::texts::{ASCII, UMLAUTS, Work, working};
 use crate::types::{adding, bounding};
 use std::alloc::Global;
@@ -28,14 +26,10 @@ pub enum Measure {
     AddType,
     /// The bounds of two types that were doubled SIZE times.
     Bounds,
-    /// A document of SIZE commands.
-    Document(Stage, Uses),
-    /// Completion in a document of SIZE commands.
-    List(Cursor, Asked),
 }
 
 /// All measures by their names on the command line.
-pub static MEASURES: [(&str, Measure); 26] = [
+pub static MEASURES: [(&str, Measure); 13] = [
     ("whole-body", Measure::OneFrame(WHOLE)),
     ("body-by-bytes", Measure::OneFrame(1)),
     ("small-frames", Measure::SmallFrames),
@@ -49,43 +43,6 @@ pub static MEASURES: [(&str, Measure); 26] = [
     ("positions-umlauts", Measure::Text(Work::Positions, UMLAUTS)),
     ("add-type", Measure::AddType),
     ("bounds", Measure::Bounds),
-    ("bind-chain", Measure::Document(Stage::Bind, Uses::Chain)),
-    ("bind-first", Measure::Document(Stage::Bind, Uses::First)),
-    (
-        "resolve-chain",
-        Measure::Document(Stage::Resolve, Uses::Chain),
-    ),
-    (
-        "resolve-first",
-        Measure::Document(Stage::Resolve, Uses::First),
-    ),
-    (
-        "resolve-abbreviation",
-        Measure::Document(Stage::Resolve, Uses::Abbreviation),
-    ),
-    (
-        "analyse-chain",
-        Measure::Document(Stage::Analyse, Uses::Chain),
-    ),
-    (
-        "analyse-first",
-        Measure::Document(Stage::Analyse, Uses::First),
-    ),
-    ("places", Measure::Document(Stage::Places, Uses::Chain)),
-    (
-        "analyse-doubled",
-        Measure::Document(Stage::Analyse, Uses::Doubled),
-    ),
-    ("list-labels", Measure::List(Cursor::Dot, Asked::Analysis)),
-    ("list-labels-anew", Measure::List(Cursor::Dot, Asked::Text)),
-    (
-        "list-names",
-        Measure::List(Cursor::Variable, Asked::Analysis),
-    ),
-    (
-        "list-names-anew",
-        Measure::List(Cursor::Variable, Asked::Text),
-    ),
 ];
 
 /// Returns the measure with this name.
@@ -112,8 +69,6 @@ impl Measure {
             Measure::Text(work, line) => working(alloc, clock, work, line, size),
             Measure::AddType => adding(alloc, clock, size),
             Measure::Bounds => bounding(alloc, clock, size),
-            Measure::Document(stage, uses) => staging(alloc, clock, stage, uses, size),
-            Measure::List(cursor, asked) => listing(alloc, clock, cursor, asked, size),
         }
     }
 }
