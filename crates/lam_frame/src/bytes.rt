@@ -1,7 +1,8 @@
 //! In-memory devices, whose bytes are observable in contracts.
 
-ghost use Rattle.std.specs.Prelude.{◌≡◌, ◌++◌, ℕ, List, [], Some};
+ghost use Rattle.std.specs.Prelude.{◌≡◌, ◌++◌, ◌-◌, ◌^◌, ◌<◌, ℕ, IsOk, List, [], Some};
 ghost use Rattle.lam_frame.specs.Bytes.{Output};
+ghost use Rattle.lam_frame.specs.Device.{Flushes, sink_of};
 
 use crate::device::{DeviceFault, Sink, Source};
 use std::alloc::Global;
@@ -102,7 +103,11 @@ impl Sink for BytesOut {
         Ok(from.len())
     }
 
-    fn flush(&mut self) -> Result<(), DeviceFault> {
+    fn flush(&mut self) -> Result<(), DeviceFault>
+        requires { ⟦<BytesOut as Sink>⟧.failed self.old < 2 ^ 64 - 1 }
+        ensures flushes { Flushes (sink_of ⟦<BytesOut as Sink>⟧.taken ⟦<BytesOut as Sink>⟧.flushed ⟦<BytesOut as Sink>⟧.failed) self.old result self.new }
+        ensures always { IsOk result }
+    {
         self.flushed = self.bytes.len();
         Ok(())
     }

@@ -19,8 +19,7 @@ const ROOM: usize = 40;
 
 /// Writes a frame with this body to the sink and flushes it.
 ///
-/// The only error is `Device`: a push or a flush failed, and a prefix of the frame was accepted. A sink that accepts whole slices
-/// gets at most two pushes.
+/// The only error is `Device`: a push or a flush failed, and a prefix of the frame was accepted.
 pub fn write_frame<W: Sink>(sink: &mut W, body: &[u8]) -> Result<(), FrameFault>
     requires { W.failed sink.old < 2 ^ 64 - 1 }
     ensures taken { OnOk result (Appends (W.taken sink.old) (W.taken sink.new) (frame_text body.now)) }
