@@ -122,10 +122,7 @@ fn start<R: AllocGlobal + Files + Input + Print + Eprint>(
     };
     match read_args(rt.alloc(), slices.as_slice()) {
         Ok((asked, names)) => check_all(rt, asked, names.as_slice(), looks),
-        Err(ArgsFault::Help(text)) => {
-            let _ = print!(rt; "{text}");
-            FAULTLESS
-        }
+        Err(ArgsFault::Help(text)) => tell(rt, text.as_str()),
         Err(ArgsFault::Usage(text)) => refuse_words(rt, text.as_str()),
         Err(ArgsFault::Memory) => want_of_memory(rt),
     }
