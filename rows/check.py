@@ -203,6 +203,8 @@ a:1:69: error[E7]: term does not have the written type
 """
 # The last command but one has a type of 8,191 nodes, twice those of the one before it and one more, and the limit is 4,096.
 LARGE = "a0 = {a=0, b=0};\n" + "".join(f"a{n} = {{a=a{n - 1}, b=a{n - 1}}};\n" for n in range(1, 12)) + "succ true;\n"
+# Type names, the last of which stands for a type of 4,095 nodes.
+WRITTEN = "T0 = {a:Nat, b:Nat}; " + "".join(f"T{n} = {{a:T{n - 1}, b:T{n - 1}}}; " for n in range(1, 11))
 NOPE = """error: unexpected argument '--nope\ufffd[2J' found
 
   tip: to pass '--nope\ufffd[2J' as a value, use '-- --nope\ufffd[2J'
@@ -264,7 +266,29 @@ def derived(text, *steps, **context):
 
 def nested(depth):
     """A type of this depth."""
-    return "{a:" * (depth - 1) + "Nat" + "}" * (depth - 1)
+    return records(depth - 1, "Nat")
+
+
+def arrows(count, last):
+    """So many arrows from Nat, to this type."""
+    return "Nat->" * count + last
+
+
+def records(count, last):
+    """So many records with one field, around this type."""
+    return "{a:" * count + last + "}" * count
+
+
+def named(term, rule, ty):
+    """A derivation in one step of a term behind three names, of which the second has no type."""
+    before = "c : Bool; b = succ true; a : Nat; "
+    return derived(before + term, step(rule, len(before), len(before + term), ty), c="Bool", b=None, a="Nat")
+
+
+def wider(last, other):
+    """A derivation in which a name has one arrow type, a thousand arrows deep, and the name that it defines another."""
+    text = f"T = {arrows(500, last)}; y : {arrows(500, 'T')}; x = y; 0"
+    return derived(text, step("T-Num", len(text) - 1, len(text), "Nat"), y=arrows(1000, last), x=arrows(1000, other))
 
 
 def function_of(ty):
@@ -303,6 +327,14 @@ UNREAD = [
 ]
 
 
+WIDER_LETREC = "letrec f:Nat->Top = lambda n:Nat. n in f"
+# A number or a truth value, as a number: by subtyping, and without it.
+CHOICE = "if true then 0 else true"
+PARTS = [step("T-True", 3, 7, "Bool"), step("T-Num", 13, 14, "Nat"), step("T-True", 20, 24, "Bool")]
+LIFTED = derived(CHOICE, *PARTS, below("S-BoolNat", "Bool", "Nat"), step("T-Sub", 20, 24, "Nat", 2, 3), step("T-If", 0, 24, "Nat", 0, 1, 4))
+UNLIFTED = derived(CHOICE, *PARTS, step("T-If", 0, 24, "Nat", 0, 1, 2))
+
+
 @dataclass
 class Case:
     """A run of the checker."""
@@ -315,6 +347,7 @@ class Case:
     told: str = ""
     given: bytes = b""
     terminal: bool = False
+    full: bool = False  # standard output has no room
 
 
 def refused(name, why):
@@ -404,6 +437,8 @@ CASES = [
     Case("a wider type of the name of a let", ["--verify", "d"], derived("let x = {a=0, b=true} in x.a", step("T-Var", 25, 26, "{a:Nat}"), step("T-Proj", 25, 28, "Nat", 0), x="{a:Nat}"), "d: accepted: x:{a:Nat} |- x.a : Nat\n", 0),
     Case("the written type of a parameter", ["--verify", "d"], derived("lambda x:{a:Nat, b:Bool}. x", step("T-Var", 26, 27, "{a:Nat, b:Bool}"), x="{a:Nat, b:Bool}"), "d: accepted: x:{a:Nat, b:Bool} |- x : {a:Nat, b:Bool}\n", 0),
     Case("a wider type of a parameter", ["--verify", "d"], derived("lambda x:{a:Nat, b:Bool}. x", step("T-Var", 26, 27, "{a:Nat}"), x="{a:Nat}"), ENTRY.format(0), 1),
+    Case("a wider type of the name of a letrec behind its in", ["--verify", "d"], derived(WIDER_LETREC, step("T-Var", 39, 40, "Nat->Top"), f="Nat->Top"), "d: accepted: f:Nat->Top |- f : Nat->Top\n", 0),
+    Case("a wider type of the name of a letrec in its first term", ["--verify", "d"], derived(WIDER_LETREC, step("T-Var", 34, 35, "Nat"), f="Top", n="Nat"), ENTRY.format(0), 1),
     Case("entries are chosen one by one", ["--verify", "d"], derived("x = {a=0, b=true}; y = x; y", step("T-Var", 26, 27, "{a:Nat, b:Bool}"), x="{a:Nat}", y="{a:Nat, b:Bool}"), "d: accepted: x:{a:Nat}, y:{a:Nat, b:Bool} |- y : {a:Nat, b:Bool}\n", 0),
     Case("a step by the least type of a name with a wider one", ["--verify", "d"], derived("x = {a=0, b=true}; x.b", step("T-Var", 19, 20, "{a:Nat, b:Bool}"), step("T-Proj", 19, 22, "Bool", 0), x="{a:Nat}"), "d: " + BELOW.format(0) + "\n", 1),
     Case("a name without a type", ["--verify", "d"], derived("x = succ true; 0", step("T-Num", 15, 16, "Nat"), x=None), "d: accepted: x |- 0 : Nat\n", 0),
@@ -413,6 +448,20 @@ CASES = [
     Case("a context with no type of a name", ["--verify", "d"], {"a": USED, "d": used("{a:Nat, b:Bool}", None)}, ENTRY.format(1), 1),
     Case("a label twice in a context", ["--verify", "d"], {"a": USED, "d": used("{a:Nat, b:Bool, b:Bool}", "{b:Bool, a:Nat}")}, ENTRY.format(0), 1),
     Case("a derivation of a text with a type that is too large", ["--verify", "d"], {"a": "0;\n" + LARGE, "d": line({"derivation": STEPS, "file": "a"})}, "d: the text has a type of more than 4,096 nodes\n", 1),
+    Case("a derivation of a text with a written type that is too large", ["--verify", "d"], {"a": "0;\n" + WRITTEN + "x : {a:T10, b:Nat}", "d": line({"derivation": STEPS, "file": "a"})}, "d: the text has a type of more than 4,096 nodes\n", 1),
+    Case("an argument that is not lifted", ["--verify", "d"], {"a": CALL, "d": sent(steps=[*PROOF[:2], {**PROOF[4], "from": [0, 1]}])}, "d: " + BELOW.format(2) + "\n", 1),
+    Case("a branch that is not lifted", ["--dialect", "2", "--verify", "d"], UNLIFTED, "d: " + BELOW.format(3) + "\n", 1),
+    Case("a branch that is lifted", ["--dialect", "2", "--verify", "d"], LIFTED, f"d: accepted: {CHOICE} : Nat\n", 0),
+    Case("a branch that is lifted as in the other dialect", ["--verify", "d"], LIFTED, "d: " + BELOW.format(3) + "\n", 1),
+    Case("the innermost entry", ["--verify", "d"], named("a", "T-Var", "Nat"), "d: accepted: c:Bool, b, a:Nat |- a : Nat\n", 0),
+    Case("the innermost entry with the type of the outermost", ["--verify", "d"], named("a", "T-Var", "Bool"), "d: " + BELOW.format(0) + "\n", 1),
+    Case("an entry without a type", ["--verify", "d"], named("b", "T-Var", "Nat"), "d: " + BELOW.format(0) + "\n", 1),
+    Case("the outermost entry", ["--verify", "d"], named("c", "T-Var", "Bool"), "d: accepted: c:Bool, b, a:Nat |- c : Bool\n", 0),
+    Case("a term that uses no entry", ["--verify", "d"], named("unit", "T-Unit", "Unit"), "d: accepted: c:Bool, b, a:Nat |- unit : Unit\n", 0),
+    Case("a premise of subtyping where the rule has none", ["--verify", "d"], derived("unit", below("S-Refl", "Unit", "Unit"), step("T-Unit", 0, 4, "Unit", 0)), "d: " + BELOW.format(1) + "\n", 1),
+    Case("no premise of subtyping where the rule has one", ["--verify", "d"], derived("unit", step("T-Unit", 0, 4, "Unit"), step("T-Sub", 0, 4, "Unit", 0)), "d: " + BELOW.format(1) + "\n", 1),
+    Case("a wider type a thousand arrows deep", ["--verify", "d"], wider("Nat", "Top"), f"d: accepted: y:{arrows(1000, 'Nat')}, x:{arrows(1000, 'Top')} |- 0 : Nat\n", 0),
+    Case("a narrower type a thousand arrows deep", ["--dialect", "2", "--verify", "d"], wider("Top", "Nat"), ENTRY.format(1), 1),
     Case("no such rule", ["--verify", "d"], {"a": CALL, "d": sent((0, {"rule": "T-Foo"}))}, "d: step 0 names no rule of its kind\n", 1),
     Case("no type", ["--verify", "d"], {"a": CALL, "d": sent((0, {"type": "{x:Nat"}))}, "d: step 0 has an unreadable type, or one of over 4,096 levels\n", 1),
     *(Case(name, ["--verify", "d"], {"a": CALL, "d": told}, f"d: {why}\n", 1) for name, told, why in UNREAD),
@@ -458,12 +507,68 @@ CASES = [
     Case("control characters in a wrong option", ["--nope\x1b[2J"], {}, "", 2, NOPE),
     Case("LaTeX and HTML", ["--latex", "--html", "--why", "1:1", "a"], {"a": "0"}, "", 2, None),
     Case("JSON and HTML", ["--json", "--html", "--why", "1:1", "a"], {"a": "0"}, "", 2, None),
+    *(Case(f"no room for what {name} prints", words, {"a": "succ true"}, "", 4, full=True) for name, words in (("a report", ["a"]), ("a type", ["--types", "a"]), ("the help", ["--help"]))),
 ]
+
+# Steps of subtyping, each with its rule, its types and its premises. Before them are the dialects in which they are a proof, and the step
+# that is told where they are none; there they are counted from 1.
+A, B, AB, BA = "{a:Nat}", "{b:Nat}", "{a:Nat, b:Nat}", "{b:Nat, a:Nat}"
+NATS = (("S-Refl", "Nat", "Nat"), ("S-Refl", "Nat", "Nat"))
+SUBTYPINGS = [
+    ("12", 0, ("S-RcdWidth", AB, A)),
+    ("", 1, ("S-RcdWidth", AB, B)),
+    ("12", 0, ("S-RcdWidth", AB, AB)),
+    ("", 1, ("S-RcdWidth", A, AB)),
+    ("12", 0, ("S-RcdWidth", AB, "{}")),
+    ("12", 0, ("S-RcdPerm", AB, BA)),
+    ("12", 0, ("S-RcdPerm", AB, AB)),
+    ("", 1, ("S-RcdPerm", AB, A)),
+    ("", 1, ("S-RcdPerm", A, AB)),
+    ("12", 0, ("S-Refl", AB, AB)),
+    ("", 1, ("S-Refl", AB, BA)),
+    ("12", 0, ("S-RcdDepth", "{}", "{}")),
+    ("", 1, ("S-RcdDepth", AB, BA)),
+    ("", 1, ("S-Trans", AB, AB)),
+    ("", 1, ("S-Top", AB, "{}")),
+    ("12", 0, ("S-Top", "Top", "Top")),
+    ("2", 1, ("S-BoolNat", "Bool", "Nat")),
+    ("", 1, ("S-BoolNat", "Nat", "Bool")),
+    # The two premises of transitivity share the type in the middle.
+    ("12", 0, ("S-RcdPerm", AB, BA), ("S-RcdWidth", BA, B), ("S-Trans", AB, B, 1, 2)),
+    ("", 2, ("S-RcdPerm", AB, BA), ("S-RcdWidth", AB, B), ("S-Trans", AB, B, 1, 2)),
+    ("", 3, ("S-RcdPerm", AB, AB), ("S-RcdWidth", BA, B), ("S-Trans", AB, B, 1, 2)),
+    # The first premise goes from the upper parameter to the lower one.
+    ("12", 0, ("S-Top", B, "Top"), NATS[0], ("S-Arrow", "Top->Nat", "{b:Nat}->Nat", 1, 2)),
+    ("", 3, ("S-Top", AB, "Top"), NATS[0], ("S-Arrow", "Top->Nat", "{b:Nat}->Nat", 1, 2)),
+    # Depth keeps the labels in their order.
+    ("12", 0, *NATS, ("S-RcdDepth", AB, AB, 1, 2)),
+    ("", 3, *NATS, ("S-RcdDepth", AB, BA, 1, 2)),
+    ("", 3, *NATS, ("S-RcdDepth", AB, B, 1, 2)),
+    ("", 3, *NATS, ("S-RcdDepth", AB, "{}", 1, 2)),
+]
+
+
+def subtypings():
+    """A case for each of these lists in each dialect, by which a declared name has the wider type."""
+    for dialects, wrong_one, *proof in SUBTYPINGS:
+        rule, lower, upper, *_ = proof[-1]
+        text = f"x : {lower}; x"
+        end = len(text)
+        files = derived(text, step("T-Var", end - 1, end, lower), *(below(*it) for it in proof), step("T-Sub", end - 1, end, upper, 0, len(proof)), x=lower)
+        for dialect in "12":
+            accepted = dialect in dialects
+            told = f"accepted: x:{lower} |- x : {upper}" if accepted else BELOW.format(wrong_one)
+            yield Case(f"{rule}, {lower} <: {upper}", ["--dialect", dialect, "--verify", "d"], files, f"d: {told}\n", 0 if accepted else 1)
 
 
 def ended(program, case, room):
     """A run, and what it wrote on standard error."""
     words = [program, *case.words]
+    if case.full:
+        with open("/dev/full", "wb") as full:
+            run = subprocess.run(words, cwd=room, input=case.given, stdout=full, stderr=subprocess.PIPE, check=False, timeout=60)
+        run.stdout = b""
+        return run, run.stderr.decode()
     if not case.terminal:
         run = subprocess.run(words, cwd=room, input=case.given, capture_output=True, check=False, timeout=60)
         return run, run.stderr.decode()
@@ -512,6 +617,84 @@ def written_and_read(program, name, text):
     return None
 
 
+APPLIED = "(lambda r:{x:Nat}. r.x) {y=true, x=0};"
+CHOSEN = "let y = {b=0, a=true} in if y.a then y else {a=false}"
+DECLARED = "f : {a:Nat}->Nat; f {a=0, b=true}"
+HIDDEN = "y = succ true; T = Nat; x : T; lambda r:{b:Nat, a:Bool}. let _ = r.b in let x = r in x"
+ROW = "{b:Nat, a:Bool}"
+FIELDS = [*range(500, 699), *range(200, 500)]
+TAKEN = [*range(500, 697), *range(200, 500)]
+# x198 has the type Nat, as each one with an even number.
+FRONT = "".join(f"x{n} = {'true' if n % 2 else '0'}; " for n in range(199))
+DEEP_ARROWS = f"T = {arrows(500, 'Nat')}; U = {arrows(500, 'Top')}; x : {arrows(500, 'T')}; x as {arrows(500, 'U')}"
+DEEP_RECORDS = f"L = {records(400, 'Bool')}; M = {records(400, 'L')}; U = {records(400, 'Nat')}; V = {records(400, 'U')}; x : {records(200, 'M')}; x as {records(200, 'V')}"
+
+
+def fields(numbers, each):
+    """Fields with these numbers in their labels, each followed by this."""
+    return "{" + ", ".join(f"l{n}{each}" for n in numbers) + "}"
+
+
+def doubled(count, ty="Nat"):
+    """The type, so many times as both fields of a record."""
+    return doubled(count - 1, f"{{a:{ty}, b:{ty}}}") if count else ty
+
+
+# Texts of one line: the derivation that is written of the term around this character, in these dialects, is accepted, and says this.
+# Without anything that it says, none is written.
+DERIVED = [
+    ("12", APPLIED, 23, "(lambda r:{x:Nat}. r.x) {y=true, x=0} : Nat"),
+    ("1", APPLIED, 19, "r:{x:Nat} |- r : {x:Nat}"),
+    ("1", CHOSEN, 25, f"y:{ROW} |- if y.a then y else {{a=false}} : {{a:Bool}}"),
+    ("1", CHOSEN, 28, f"y:{ROW} |- y : {ROW}"),
+    ("1", CHOSEN, 0, f"{CHOSEN} : {{a:Bool}}"),
+    ("1", DECLARED, 18, "f:{a:Nat}->Nat |- f : {a:Nat}->Nat"),
+    ("1", DECLARED, 19, "f:{a:Nat}->Nat |- f {a=0, b=true} : Nat"),
+    ("1", "f : {a:Nat}->Nat; r = {b=true, a=0}; f r", 38, "f:{a:Nat}->Nat, r:{b:Bool, a:Nat} |- f r : Nat"),
+    ("1", "letrec f:Nat->Nat = lambda n:Nat. f n in f", 35, "f:Nat->Nat, n:Nat |- f n : Nat"),
+    ("12", "letrec f:Nat->Nat = lambda n:Nat. n in f", 0, "letrec f:Nat->Nat = lambda n:Nat. n in f : Nat->Nat"),
+    ("1", WIDER_LETREC, 0, f"{WIDER_LETREC} : Nat->Nat"),
+    ("1", "letrec f:Nat->Top = lambda n:Nat. n in f 0", 0, "letrec f:Nat->Top = lambda n:Nat. n in f 0 : Nat"),
+    ("1", "letrec f:Nat->Top = lambda n:Nat. n in f unit", 0, None),
+    ("1", "fix (lambda x:Top. 0)", 0, "fix (lambda x:Top. 0) : Nat"),
+    ("1", "if true then {a=0} else {b=0}", 0, "if true then {a=0} else {b=0} : {}"),
+    ("2", CHOICE, 0, f"{CHOICE} : Nat"),
+    ("2", "lambda c:Bool. if c then (lambda x:Nat. x) else (lambda x:Bool. 0)", 0, "lambda c:Bool. if c then (lambda x:Nat. x) else (lambda x:Bool. 0) : Bool->Bool->Nat"),
+    ("1", "Y = Q; z : Y; lambda x:Nat. x", 14, "z |- lambda x:Nat. x : Nat->Nat"),
+    ("1", "(iszero (succ (pred 0))) as Top", 25, "(iszero (succ (pred 0))) as Top : Top"),
+    ("12", "(iszero (succ (pred 0))) as Bool", 25, "(iszero (succ (pred 0))) as Bool : Bool"),
+    ("2", "succ true", 0, "succ true : Nat"),
+    ("2", "y = succ true; z = y;", 19, "y:Nat |- y : Nat"),
+    ("1", HIDDEN, 85, f"y, x:Nat, r:{ROW}, _:Nat, x:{ROW} |- x : {ROW}"),
+    # Other commands and pieces that are none.
+    ("1", "; x = 0;; ( ; y = x;", 18, "x:Nat |- x : Nat"),
+    ("1", "x = 0; " * 10_000 + "x", 70_000, ", ".join(["x:Nat"] * 10_000) + " |- x : Nat"),
+    # Large and deep ones.
+    ("1", f"x = {fields(FIELDS, '=0')};", 4, f"{fields(FIELDS, '=0')} : {fields(FIELDS, ':Nat')}"),
+    ("1", f"f = lambda r:{fields(TAKEN, ':Nat')}. r.l696;", 4, f"lambda r:{fields(TAKEN, ':Nat')}. r.l696 : {fields(TAKEN, ':Nat')}->Nat"),
+    ("1", f"{FRONT}x199 = x198;", len(FRONT) + 7, ", ".join(f"x{n}:{'Bool' if n % 2 else 'Nat'}" for n in range(199)) + " |- x198 : Nat"),
+    ("1", f"{WRITTEN}x : {{a:T10}}; 0", len(WRITTEN) + 13, f"x:{{a:{doubled(11)}}} |- 0 : Nat"),
+    ("1", DEEP_ARROWS, DEEP_ARROWS.index("as"), f"x:{arrows(1000, 'Nat')} |- x as {arrows(500, 'U')} : {arrows(1000, 'Top')}"),
+    ("2", DEEP_RECORDS, DEEP_RECORDS.index("as"), f"x:{records(1000, 'Bool')} |- x as {records(200, 'V')} : {records(1000, 'Nat')}"),
+    ("1", DEEP_RECORDS, DEEP_RECORDS.index("as"), None),
+]
+
+
+def derivations(program):
+    """A case for each of these texts in each dialect: what is written is read again."""
+    for dialects, text, at, claim in DERIVED:
+        for dialect in dialects:
+            name, words = f"the derivation at {at} in {text[:60]}", ["--dialect", dialect, "--why", f"1:{at + 1}", "a"]
+            if claim is None:
+                yield Case(name, words, {"a": text}, "", 1, refused("a", "no term with a type is there"))
+                continue
+            with tempfile.TemporaryDirectory() as room:
+                with open(f"{room}/a", "w", encoding="utf-8") as it:
+                    it.write(text)
+                told = subprocess.run([program, "--json", *words], cwd=room, capture_output=True, check=False).stdout
+            yield Case(name, ["--dialect", dialect, "--verify", "d"], {"a": text, "d": told}, f"d: accepted: {claim}\n", 0)
+
+
 def texts():
     """The examples, and a text of its own."""
     yield "a type that a proof widens", WIDENED
@@ -526,8 +709,8 @@ def main():
     program = os.path.realpath(words.parse_args().program)
     if not os.path.isfile(program):
         sys.exit(f"there is no program {program}: run make, or name one by --program")
-    failed = 0
-    for case in CASES:
+    failed, cases = 0, [*CASES, *subtypings(), *derivations(program)]
+    for case in cases:
         what = wrong(program, case)
         if what:
             failed += 1
@@ -536,7 +719,7 @@ def main():
     for what in filter(None, own):
         failed += 1
         print(f"derivations that were written are read: {what}")
-    print(f"{len(CASES) + len(own) - failed} passed, {failed} failed")
+    print(f"{len(cases) + len(own) - failed} passed, {failed} failed")
     return 1 if failed else 0
 
 

@@ -7,11 +7,11 @@ ghost use Rattle.lam_rules.specs.Types.{IsWellFormed};
 ghost use Rattle.lam_rules.specs.TypeViews.{typ_of};
 
 use crate::subtyping::add_both;
-use crate::table::doubled;
-use crate::written::{check_rows, equal, fields, labelled, type_of, well_formed};
+use crate::table::{doubled, doubled_nat, doubled_record};
+use crate::written::{check_rows, equal, type_of, wide_record};
 use Dialect::{One, Two};
 use lam_lattice::{join, join_no, meet, meet_no};
-use lam_rules::{Dialect, Shape, Ty, TyNo, TyTable, make_arrow, make_record, plain_text_of};
+use lam_rules::{Dialect, Ty, TyNo, TyTable, make_arrow, plain_text_of};
 use lam_sub::Verdicts;
 use std::alloc::{AllocError, Global};
 use std::test::Fail;
@@ -140,50 +140,38 @@ fn types_that_texts_write(rt: HostRuntime) -> Result<(), Fail> {
     check_rows(&rt, rt.alloc(), bounds_of_texts, &ROWS)
 }
 
-/// `{l500:Nat, ..}->{l0:Nat, .., l500:Bool, ..}`
+/// Labels numbered from `first` up to but not including `end`, each followed by `behind`, as `l500:Nat, l501:Nat`.
+fn labelled(alloc: Global, first: u32, end: u32, behind: &str) -> Result<String, AllocError> {
+    let mut text = String::new(alloc);
+    for number in first..end {
+        let comma = if number == first { "" } else { ", " };
+        write!(text, "{comma}l{number}{behind}")?;
+    }
+    Ok(text)
+}
+
+/// `{l2500:Nat, ..}->{l0:Nat, .., l2500:Bool, ..}`
 fn wanted_of_wide(alloc: Global) -> Result<String, AllocError> {
-    let shared = labelled(alloc, 500, 1_000, ":Nat")?;
-    let front = labelled(alloc, 0, 500, ":Nat")?;
-    let lesser = labelled(alloc, 500, 1_500, ":Bool")?;
+    let shared = labelled(alloc, 2_500, 5_000, ":Nat")?;
+    let front = labelled(alloc, 0, 2_500, ":Nat")?;
+    let lesser = labelled(alloc, 2_500, 7_500, ":Bool")?;
     format!(in alloc; "{{{shared}}}->{{{front}, {lesser}}}")
 }
 
-/// Two records of a thousand fields with five hundred labels in common, in the dialect where Bool is a subtype of Nat.
+/// Two records of five thousand fields, which is over the size limit of a document, with half of their labels in common, in the
+/// dialect where Bool is a subtype of Nat.
 fn bounds_of_wide(alloc: Global) -> Result<String, Fail> {
-    let left = well_formed(make_record(alloc, fields(alloc, 0, 1_000, &Ty::Nat)?)?)?;
-    let right = well_formed(make_record(alloc, fields(alloc, 500, 1_500, &Ty::Bool)?)?)?;
+    let left = wide_record(alloc, 0, 5_000, &Ty::Nat)?;
+    let right = wide_record(alloc, 2_500, 7_500, &Ty::Bool)?;
     Ok(both_bounds(alloc, &left, &right, Two)?)
-}
-
-#[test]
-fn records_of_a_thousand_fields(rt: HostRuntime) -> Result<(), Fail> {
-    equal(
-        &rt,
-        &bounds_of_wide(rt.alloc())?,
-        &wanted_of_wide(rt.alloc())?,
-    );
-    Ok(())
-}
-
-/// Two records of five thousand fields, which is over the size limit of a document.
-fn bounds_of_large(alloc: Global) -> Result<String, Fail> {
-    let left = well_formed(make_record(alloc, fields(alloc, 0, 5_000, &Ty::Nat)?)?)?;
-    let right = well_formed(make_record(alloc, fields(alloc, 0, 5_000, &Ty::Bool)?)?)?;
-    Ok(both_bounds(alloc, &left, &right, Two)?)
-}
-
-fn wanted_of_large(alloc: Global) -> Result<String, AllocError> {
-    let greater = labelled(alloc, 0, 5_000, ":Nat")?;
-    let lesser = labelled(alloc, 0, 5_000, ":Bool")?;
-    format!(in alloc; "{{{greater}}}->{{{lesser}}}")
 }
 
 #[test]
 fn records_of_five_thousand_fields(rt: HostRuntime) -> Result<(), Fail> {
     equal(
         &rt,
-        &bounds_of_large(rt.alloc())?,
-        &wanted_of_large(rt.alloc())?,
+        &bounds_of_wide(rt.alloc())?,
+        &wanted_of_wide(rt.alloc())?,
     );
     Ok(())
 }
@@ -193,21 +181,17 @@ fn records_of_five_thousand_fields(rt: HostRuntime) -> Result<(), Fail> {
 fn sides(table: &mut TyTable) -> Result<(TyNo, TyNo), AllocError>
     ensures { IfOk result (λ both. Stands table.new both.0 × Stands table.new both.1) }
 {
-    let nat = table.intern(Shape::Nat)?;
-    let a = table.record(&[("a", nat)])?;
-    let b = table.record(&[("b", nat)])?;
-    let left = doubled(table, a, "a", "b", 40)?;
-    let right = doubled(table, b, "a", "b", 40)?;
+    let left = doubled_record(table, "a")?;
+    let right = doubled_record(table, "b")?;
     Ok((left, right))
 }
 
 /// The bounds of these types: the same doublings of the empty record and of `{a:Nat, b:Nat}`.
 #[tactic(auto, using(lam_rules::proofs::Tables::numbers))]
 fn expected(table: &mut TyTable) -> Result<(TyNo, TyNo), AllocError> {
-    let nat = table.intern(Shape::Nat)?;
     let none = table.record(&[])?;
     let upper = doubled(table, none, "a", "b", 40)?;
-    let lower = doubled(table, nat, "a", "b", 41)?;
+    let lower = doubled_nat(table, "a", "b", 41)?;
     Ok((upper, lower))
 }
 

@@ -38,19 +38,23 @@ fn push_command(text: &mut String, uses: Uses, i: usize) -> Result<(), AllocErro
     }
 }
 
+/// How many commands are counted as typed when a text is read, and when it has become another.
+fn counts(alloc: Global, old: &str, new: &str) -> Result<(usize, usize), AllocError> {
+    let analysis = Analysis::new(alloc, old, Dialect::One)?;
+    let before = analysis.commands_typed();
+    let analysis = analysis.changed(alloc, old, new)?;
+    Ok((before, analysis.commands_typed()))
+}
+
 /// How many commands are typed when the text is read, and how many more when `other` is put in.
-fn typed(alloc: Global, change: (Uses, usize, &str)) -> Result<String, AllocError> {
-    let (uses, number, other) = change;
+fn typed(alloc: Global, (uses, number, other): (Uses, usize, &str)) -> Result<String, AllocError> {
     let old = commands(alloc, uses, 1000, "")?;
     let new = commands(alloc, uses, number, other)?;
-    let analysis = Analysis::new(alloc, &old, Dialect::One)?;
-    let before = analysis.commands_typed();
-    let analysis = analysis.changed(alloc, &old, &new)?;
-    let after = analysis.commands_typed();
+    let (before, after) = counts(alloc, &old, &new)?;
     format!(in alloc; "{before} {}", after.saturating_sub(before))
 }
 
-const CHANGES: [((Uses, usize, &str), &str); 21] = [
+static CHANGES: [((Uses, usize, &str), &str); 21] = [
     // A blank in a command, a name, a term, one command more and one less.
     ((Nothing, 0, "x0  = 0;"), "1000 1"),
     ((Nothing, 500, "x500  = 0;"), "1000 1"),
@@ -99,28 +103,37 @@ fn typed_after(alloc: Global, changes: usize) -> Result<String, AllocError> {
 
 /// The text has 9,889 bytes, and three more after every other change. The ninth change starts from scratch, since by then more
 /// than twice as many bytes plus 65,536 have been read.
-const ANEW: [(usize, &str); 3] = [(0, "1000"), (8, "9000"), (9, "1000")];
+static ANEW: [(usize, &str); 3] = [(0, "1000"), (8, "9000"), (9, "1000")];
 
-/// How many commands are typed if a short text becomes one of this many commands, each with a name of its own, and then
-/// has one command more.
-fn typed_beside(alloc: Global, names: usize) -> Result<String, AllocError> {
-    let short = "0;";
-    let mut long = String::new(alloc);
-    for i in 0..names {
-        write!(long, "n{i};")?;
+/// This many commands, each with a name of its own.
+fn names(alloc: Global, count: usize) -> Result<String, AllocError> {
+    let mut text = String::new(alloc);
+    for i in 0..count {
+        write!(text, "n{i};")?;
     }
-    let mut longer = String::from_str(alloc, &long)?;
-    longer.push_str("0;")?;
-    let analysis = Analysis::new(alloc, short, Dialect::One)?;
-    let analysis = analysis.changed(alloc, short, &long)?;
+    Ok(text)
+}
+
+/// How many commands are counted as typed when a short text has become a long one, and when that has become a longer one.
+fn counts_grown(alloc: Global, long: &str, longer: &str) -> Result<(usize, usize), AllocError> {
+    let analysis = Analysis::new(alloc, "0;", Dialect::One)?;
+    let analysis = analysis.changed(alloc, "0;", long)?;
     let before = analysis.commands_typed();
-    let analysis = analysis.changed(alloc, &long, &longer)?;
-    format!(in alloc; "{before} {}", analysis.commands_typed())
+    let analysis = analysis.changed(alloc, long, longer)?;
+    Ok((before, analysis.commands_typed()))
+}
+
+/// The same for a text of this many commands and one with one command more.
+fn typed_beside(alloc: Global, count: usize) -> Result<String, AllocError> {
+    let long = names(alloc, count)?;
+    let longer = format!(in alloc; "{long}0;")?;
+    let (before, after) = counts_grown(alloc, &long, &longer)?;
+    format!(in alloc; "{before} {after}")
 }
 
 /// The table of names has an entry for each name, and the table of types at most ten. So the tables exceed 8,192 entries
 /// only in the second row, where the last change starts from scratch.
-const OUTGROWN: [(usize, &str); 2] = [(8000, "8001 8002"), (9000, "9001 9001")];
+static OUTGROWN: [(usize, &str); 2] = [(8000, "8001 8002"), (9000, "9001 9001")];
 
 #[test]
 fn all_is_made_anew_once_the_tables_have_grown(rt: HostRuntime) -> Result<(), AllocError> {

@@ -1,23 +1,15 @@
 //! Tests of the library crates through their public functions: tables of inputs with the expected results.
 //!
-//! A crate with tests is proved a second time, so the library crates have none, and this crate has nothing else. Runs of the
-//! whole server are tested by the files in `rows/` at the top of the repository, which are played through the program.
+//! A crate with tests is proved a second time, so the library crates have none, and this crate has nothing else. What a client of
+//! the programs can see is tested by the files in `rows/` at the top of the repository, which are played through the programs.
 #![tactic(auto)]
 
-#[cfg(test)]
-mod binding;
 #[cfg(test)]
 mod bounds;
 #[cfg(test)]
 mod changes;
 #[cfg(test)]
-mod definitions;
-#[cfg(test)]
-mod derivations;
-#[cfg(test)]
 mod frames;
-#[cfg(test)]
-mod one_command;
 #[cfg(test)]
 mod rules;
 #[cfg(test)]
@@ -28,9 +20,5 @@ mod table;
 mod texts;
 #[cfg(test)]
 mod tokens;
-#[cfg(test)]
-mod trees;
-#[cfg(test)]
-mod typing;
 #[cfg(test)]
 mod written;

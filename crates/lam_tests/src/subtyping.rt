@@ -1,14 +1,14 @@
-//! Subtyping of trees and of type ids, with deep and wide types.
+//! Subtyping of trees and of type ids, with wide types. Deep ones are tested by `rows/check.py` and `bench/process.py`.
 
 ghost use Rattle.std.specs.Prelude.{IfOk};
 ghost use Rattle.lam_rules.specs.Types.{IsWellFormed};
 ghost use Rattle.lam_rules.specs.TypeViews.{typ_of};
 ghost use Rattle.lam_rules.specs.Numbers.{Stands};
 
-use crate::table::doubled;
-use crate::written::{arrows, check_rows, equal, fields, type_of, well_formed};
+use crate::table::{doubled_nat, doubled_record};
+use crate::written::{check_rows, equal, fields, type_of, well_formed, wide_record};
 use Dialect::{One, Two};
-use lam_rules::{Dialect, Shape, SubProof, Ty, TyNo, TyTable, check_sub, make_record};
+use lam_rules::{Dialect, SubProof, Ty, TyNo, TyTable, check_sub, make_record};
 use lam_sub::{Verdicts, is_sub, is_sub_no, prove_sub};
 use std::alloc::{AllocError, Global};
 use std::test::Fail;
@@ -177,49 +177,6 @@ fn types_that_texts_write(rt: HostRuntime) -> Result<(), Fail> {
     check_rows(&rt, rt.alloc(), in_two, &IN_TWO)
 }
 
-/// How `Nat->Nat->..->lower`, a thousand arrows deep, is related to the same type ending in `upper`.
-fn deep_arrows(alloc: Global, lower: Ty, upper: Ty, dialect: Dialect) -> Result<String, Fail> {
-    let left = well_formed(arrows(alloc, 1_000, lower)?)?;
-    let right = well_formed(arrows(alloc, 1_000, upper)?)?;
-    Ok(related(alloc, &left, &right, dialect)?)
-}
-
-#[test]
-fn a_thousand_arrows_deep(rt: HostRuntime) -> Result<(), Fail> {
-    let upward = deep_arrows(rt.alloc(), Ty::Nat, Ty::Top, One)?;
-    equal(&rt, &upward, "true 2001 true true false");
-    let downward = deep_arrows(rt.alloc(), Ty::Top, Ty::Nat, Two)?;
-    equal(&rt, &downward, UNRELATED);
-    Ok(())
-}
-
-/// `{a:{a:..{a:last}..}}`, a thousand records deep.
-fn nested(alloc: Global, last: Ty) -> Result<Ty, Fail>
-    ensures { IfOk result (λ ty. IsWellFormed (typ_of ty)) }
-{
-    let mut ty = last;
-    for _ in 0..1_000 {
-        let mut items = Vec::new(alloc);
-        items.push((String::from_str(alloc, "a")?, ty))?;
-        ty = make_record(alloc, items)?;
-    }
-    well_formed(ty)
-}
-
-/// The number of steps of the proof that such a type over Bool is a subtype of one over Nat, or 0.
-fn nested_steps(alloc: Global, dialect: Dialect) -> Result<u64, Fail> {
-    let lower = nested(alloc, Ty::Bool)?;
-    let upper = nested(alloc, Ty::Nat)?;
-    Ok(steps_below(alloc, &lower, &upper, dialect)?)
-}
-
-#[test]
-fn a_thousand_records_deep(rt: HostRuntime) -> Result<(), Fail> {
-    assert_eq!(rt; nested_steps(rt.alloc(), One)?, 0);
-    assert_eq!(rt; nested_steps(rt.alloc(), Two)?, 1_001);
-    Ok(())
-}
-
 /// A record of Nat fields with the labels `l0` to `l999`, in descending order.
 fn downward(alloc: Global) -> Result<Ty, Fail>
     ensures { IfOk result (λ ty. IsWellFormed (typ_of ty)) }
@@ -231,14 +188,14 @@ fn downward(alloc: Global) -> Result<Ty, Fail>
 
 /// How the record type with those labels in ascending order is related to that in descending order.
 fn turned(alloc: Global) -> Result<String, Fail> {
-    let upward = well_formed(make_record(alloc, fields(alloc, 0, 1_000, &Ty::Nat)?)?)?;
+    let upward = wide_record(alloc, 0, 1_000, &Ty::Nat)?;
     let downward = downward(alloc)?;
     Ok(related(alloc, &upward, &downward, One)?)
 }
 
 /// How `{l999:Top}` and the ascending record type are related, in both directions.
 fn last_field(alloc: Global) -> Result<String, Fail> {
-    let all = well_formed(make_record(alloc, fields(alloc, 0, 1_000, &Ty::Nat)?)?)?;
+    let all = wide_record(alloc, 0, 1_000, &Ty::Nat)?;
     let one = type_of(alloc, "{l999:Top}")?;
     let upward = related(alloc, &one, &all, One)?;
     let below = related(alloc, &all, &one, One)?;
@@ -262,10 +219,8 @@ fn a_thousand_fields(rt: HostRuntime) -> Result<(), Fail> {
 fn narrow_and_wide(table: &mut TyTable) -> Result<(TyNo, TyNo), AllocError>
     ensures { IfOk result (λ both. Stands table.new both.0 × Stands table.new both.1) }
 {
-    let nat = table.intern(Shape::Nat)?;
-    let one = table.record(&[("a", nat)])?;
-    let narrow = doubled(table, one, "a", "b", 40)?;
-    let wide = doubled(table, nat, "b", "a", 41)?;
+    let narrow = doubled_record(table, "a")?;
+    let wide = doubled_nat(table, "b", "a", 41)?;
     Ok((narrow, wide))
 }
 

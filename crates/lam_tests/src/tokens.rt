@@ -1,7 +1,7 @@
 //! The tokens of texts, on one line for each text.
 
-use crate::written::{check_rows, equal};
-use lam_token::{Span, Token, first_token, is_name, is_type_name, lex};
+use crate::written::check_rows;
+use lam_token::{Span, Token, lex};
 use std::alloc::{AllocError, Global};
 
 /// The tokens of a text, each as `Name x 0..1; `: its kind, its text, and its span.
@@ -83,113 +83,6 @@ static TEXTS: [(&str, &str); 36] = [
 #[test]
 fn tokens_of_texts(rt: HostRuntime) -> Result<(), AllocError> {
     check_rows(&rt, rt.alloc(), shown, &TEXTS)
-}
-
-/// The number of tokens of a text repeated this often, and where the last one ends.
-fn counted(alloc: Global, (text, times): (&str, usize)) -> Result<String, AllocError> {
-    let long = text.repeat(alloc, times)?;
-    let tokens = lex(alloc, &long)?;
-    match tokens.last() {
-        Some(token) => format!(in alloc; "{} {}", tokens.len(), token.end()),
-        None => Ok(String::new(alloc)),
-    }
-}
-
-static LONG: [((&str, usize), &str); 1] = [(("x = 0;\n", 10_000), "40000 69999")];
-
-#[test]
-fn a_long_text_is_cut_to_its_end(rt: HostRuntime) -> Result<(), AllocError> {
-    check_rows(&rt, rt.alloc(), counted, &LONG)
-}
-
-/// The first token of a text that starts at offset 7, and the text after it.
-fn first_shown(alloc: Global, text: &str) -> Result<String, AllocError> {
-    let mut line = String::new(alloc);
-    if let Some((token, rest)) = first_token(text, 7) {
-        push_token(&mut line, &token)?;
-        line.push_str(rest)?;
-    }
-    Ok(line)
-}
-
-/// Texts, their first tokens and what follows them.
-static FIRST: [(&str, &str); 7] = [
-    (" x y", "Name x 8..9;  y"),
-    ("/* a */0.1", "Numeral 0 14..15; .1"),
-    ("\té;", "Name é 8..10; ;"),
-    ("/* a", "BadComment /* a 7..11; "),
-    ("", ""),
-    (" \n", ""),
-    ("/* a */ ", ""),
-];
-
-#[test]
-fn first_tokens_and_the_texts_behind_them(rt: HostRuntime) -> Result<(), AllocError> {
-    check_rows(&rt, rt.alloc(), first_shown, &FIRST)
-}
-
-/// What kind of name the whole text is.
-fn name_kind(text: &str) -> &'static str {
-    match (is_name(text), is_type_name(text)) {
-        (true, false) => "name",
-        (false, true) => "type name",
-        (false, false) => "neither",
-        (true, true) => "both",
-    }
-}
-
-/// Texts and their kinds.
-static NAMES: [(&str, &str); 43] = [
-    ("x", "name"),
-    ("_a", "name"),
-    ("_'", "name"),
-    ("__", "name"),
-    ("_1", "name"),
-    ("x'y", "name"),
-    ("é", "name"),
-    ("lambda_", "name"),
-    ("X", "type name"),
-    ("Nat1", "type name"),
-    ("Aé", "type name"),
-    ("", "neither"),
-    ("_", "neither"),
-    ("'", "neither"),
-    ("1", "neither"),
-    (" x", "neither"),
-    ("x ", "neither"),
-    ("x y", "neither"),
-    ("x.", "neither"),
-    ("-", "neither"),
-    ("/*x", "neither"),
-    ("X /**/", "neither"),
-    ("lambda", "neither"),
-    ("if", "neither"),
-    ("then", "neither"),
-    ("else", "neither"),
-    ("let", "neither"),
-    ("letrec", "neither"),
-    ("in", "neither"),
-    ("fix", "neither"),
-    ("succ", "neither"),
-    ("pred", "neither"),
-    ("iszero", "neither"),
-    ("true", "neither"),
-    ("false", "neither"),
-    ("unit", "neither"),
-    ("as", "neither"),
-    ("Bool", "neither"),
-    ("Nat", "neither"),
-    ("Unit", "neither"),
-    ("Top", "neither"),
-    ("Top'", "type name"),
-    ("as'", "name"),
-];
-
-#[test]
-fn names_and_type_names(rt: HostRuntime) {
-    for (text, wanted) in &NAMES {
-        equal(&rt, name_kind(text), wanted);
-    }
 }
 
 #[test]

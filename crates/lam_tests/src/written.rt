@@ -1,12 +1,12 @@
-//! Texts as commands, scopes, nameless forms and types, and the comparison of rows with expected results.
+//! Types from texts, records with numbered labels, and the comparison of rows with expected results.
 
 ghost use Rattle.std.specs.Prelude.{IfOk};
 ghost use Rattle.lam_rules.specs.Types.{IsWellFormed};
 ghost use Rattle.lam_rules.specs.TypeViews.{typ_of};
 
-use lam_rules::{Ty, copy_of, make_arrow, wf};
-use lam_scope::{Resolved, Scopes, Statement, bind, resolve};
-use lam_syntax::{Command, parse, pieces};
+use lam_rules::{Ty, copy_of, make_record, wf};
+use lam_scope::{Resolved, Statement, bind, resolve};
+use lam_syntax::{Command, parse};
 use lam_token::lex;
 use std::alloc::{AllocError, Global};
 use std::process::Abort;
@@ -32,25 +32,17 @@ pub(crate) fn check_rows<T: Copy, E, F: Fn(Global, T) -> Result<String, E>>(
     Ok(())
 }
 
-/// The commands of a text whose pieces are all commands.
-pub(crate) fn commands_of(alloc: Global, text: &str) -> Result<Vec<Command>, Fail> {
-    let tokens = lex(alloc, text)?;
+/// The declaration of a name with the type that is written in a text.
+fn declaration_of(alloc: Global, text: &str) -> Result<Command, Fail> {
+    let declared = format!(in alloc; "x : {text}")?;
+    let tokens = lex(alloc, &declared)?;
+    Ok(parse(alloc, &tokens)?)
+}
+
+/// The nameless form of that declaration.
+fn resolved_of(alloc: Global, text: &str) -> Result<Resolved, Fail> {
     let mut commands = Vec::new(alloc);
-    for piece in &pieces(alloc, &tokens)? {
-        commands.push(parse(alloc, piece)?)?;
-    }
-    Ok(commands)
-}
-
-/// The scopes of such a text.
-pub(crate) fn scopes_of(alloc: Global, text: &str) -> Result<Scopes, Fail> {
-    let commands = commands_of(alloc, text)?;
-    Ok(bind(alloc, &commands)?)
-}
-
-/// The nameless form of such a text.
-pub(crate) fn resolved_of(alloc: Global, text: &str) -> Result<Resolved, Fail> {
-    let commands = commands_of(alloc, text)?;
+    commands.push(declaration_of(alloc, text)?)?;
     let scopes = bind(alloc, &commands)?;
     Ok(resolve(alloc, &commands, &scopes)?)
 }
@@ -59,7 +51,7 @@ pub(crate) fn resolved_of(alloc: Global, text: &str) -> Result<Resolved, Fail> {
 pub(crate) fn type_of(alloc: Global, text: &str) -> Result<Ty, Fail>
     ensures { IfOk result (λ ty. IsWellFormed (typ_of ty)) }
 {
-    let resolved = resolved_of(alloc, &format!(in alloc; "x : {text}")?)?;
+    let resolved = resolved_of(alloc, text)?;
     let Some(Statement::Declaration(Some(ty))) = resolved.statements().first() else {
         return Err(Fail::new("no type"));
     };
@@ -77,15 +69,6 @@ pub(crate) fn well_formed(ty: Ty) -> Result<Ty, Fail>
     }
 }
 
-/// `Nat->Nat->..->last` with `depth` arrows.
-pub(crate) fn arrows(alloc: Global, depth: usize, last: Ty) -> Result<Ty, AllocError> {
-    let mut ty = last;
-    for _ in 0..depth {
-        ty = make_arrow(alloc, Ty::Nat, ty)?;
-    }
-    Ok(ty)
-}
-
 /// Fields with labels numbered from `first` up to but not including `end`, as `l500:Nat` and `l501:Nat`.
 pub(crate) fn fields(
     alloc: Global,
@@ -100,17 +83,10 @@ pub(crate) fn fields(
     Ok(items)
 }
 
-/// The same labels as a text, each followed by `behind`, as `l500:Nat, l501:Nat`.
-pub(crate) fn labelled(
-    alloc: Global,
-    first: u32,
-    end: u32,
-    behind: &str,
-) -> Result<String, AllocError> {
-    let mut text = String::new(alloc);
-    for number in first..end {
-        let comma = if number == first { "" } else { ", " };
-        write!(text, "{comma}l{number}{behind}")?;
-    }
-    Ok(text)
+/// The record type with these fields, as `{l500:Nat, l501:Nat}`.
+pub(crate) fn wide_record(alloc: Global, first: u32, end: u32, ty: &Ty) -> Result<Ty, Fail>
+    ensures { IfOk result (λ ty. IsWellFormed (typ_of ty)) }
+{
+    let record = make_record(alloc, fields(alloc, first, end, ty)?)?;
+    well_formed(record)
 }
