@@ -18,6 +18,8 @@ mod args;
 mod faults;
 mod run;
 mod server;
+#[cfg(test)]
+mod tests;
 
 use args::{ArgsFault, read_args};
 use faults::{RunFault, line_of, status_of};
