@@ -1,5 +1,5 @@
--- The names and type names that a command takes from outside: the names that it uses and does not bind itself, and all type names that it uses, with repetitions, in text
--- order.
+-- The names and type names that a command takes from outside, with repetitions, in text order: each name that is used where no binder inside the
+-- command binds it, such as the x in the term of "x = succ x", and all type names that it uses.
 use Rattle.std.specs.Prelude.{List, [], ◌∷◌, ◌++◌, Option, Some, if◌then◌else◌}
 use Rattle.lam_syntax.specs.Trees as tree
 use Rattle.lam_syntax.specs.Trees.{word, bound, TypeTree, type_tree, TypeNode, named, arrow, record_type, TypeFields, no_type_fields, type_field, TermTree, term_tree, TermNode, CommandTree, definition, declaration, evaluation}

@@ -18,7 +18,8 @@ use lam_syntax::{
 };
 use std::alloc::{AllocError, Global};
 
-/// The names that a command uses and does not bind itself, and the type names that it uses: each once, in the order of first use.
+/// The names that a command takes from outside, and the type names that it uses: each once, in the order of first use. The `x` in the
+/// term of `x = succ x` is taken from outside, since that term does not see what the command binds.
 #[derive(Drop)]
 pub struct FreeNames<'a> {
     pub names: Vec<&'a str>,
