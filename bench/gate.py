@@ -1,17 +1,15 @@
 #!/usr/bin/env python3
 """gate.py: the merge gate. It checks whether docs/TRUSTED.md lists what has to be believed, runs `rt ci`, that is every proof from nothing,
-the tests and the edits that must fail, and plays the programs once they are proved and built: the rows, as both compilers build them; random
-edits, after which the answers must be those about the same texts opened anew; what requests and changes allocate in a short and in a long
-text; sessions while memory is refused; what a machine does to a process. It prints what all of it took. The last line counts all of this:
-'N passed, M failed'."""
+the tests and the edits that must fail, then plays the rows against the program as both compilers build it, edits random documents in it and
+compares its answers with those about the same texts opened anew, counts what requests and changes allocate in a short and in a long text,
+plays sessions while memory is refused to it, does to it what a machine does to a process, and prints what all of it took. The last line counts
+all of this: 'N passed, M failed'."""
 
-import io
 import os
 import re
 import resource
 import subprocess
 import sys
-import threading
 import time
 
 import trusted
@@ -19,10 +17,8 @@ import trusted
 ROOT = os.path.join(os.path.dirname(os.path.realpath(__file__)), "..")
 COUNT = re.compile(r"(\d+) passed, (\d+) failed$")
 
-# What is played against the programs, and what `rt ci` says of each of these once it is built.
-PROGRAMS = {"lam_server", "lam_check"}
-BUILT = re.compile(r"rt: (\w+) (?:proved|is kept)")
-PLAYS = (
+# What is played after `rt ci`, against the program that it built.
+BEHIND = (
     ("rows", "rows/play.py"),
     ("rows of the checker", "rows/check.py"),
     ("sessions of random edits", "bench/edits.py"),
@@ -41,60 +37,35 @@ def lanes():
     return max(1, min(len(os.sched_getaffinity(0)), memory // A_CHECK))
 
 
-def counted(words, heard=lambda line: None, out=sys.stdout):
-    """Runs the words and passes on what they print, but for the last line, which counts; returns the counts. Each line is heard at once."""
+def counted(words):
+    """Runs the words and passes on what they print, but for the last line, which counts; returns the counts."""
     passed, failed, last = 0, 1, None
     with subprocess.Popen(words, cwd=ROOT, stdout=subprocess.PIPE, text=True, errors="replace") as run:
         for line in run.stdout:
-            heard(line)
             if last is not None:
-                print(last, end="", file=out, flush=True)
+                print(last, end="", flush=True)
             last = line
     found = COUNT.match((last or "").strip())
     if found:
         passed, failed = int(found[1]), int(found[2])
     elif last:
-        print(last, end="", file=out, flush=True)
+        print(last, end="", flush=True)
     if run.returncode and not failed:
         failed = 1
     return passed, failed
-
-
-class Plays(threading.Thread):
-    """Plays the programs while `rt ci` tries the last edits; keeps what is printed meanwhile, and the counts."""
-
-    def __init__(self):
-        super().__init__()
-        self.built, self.counts, self.out = set(), [], io.StringIO()
-
-    def hear(self, line):
-        """Begins once the programs are built."""
-        found = BUILT.match(line)
-        if found and self.ident is None:
-            self.built.add(found[1])
-            if self.built >= PROGRAMS:
-                self.start()
-
-    def run(self):
-        for name, script in PLAYS:
-            middle = time.monotonic()
-            self.counts.append(counted([sys.executable, f"{ROOT}/{script}"], out=self.out))
-            right, wrong = self.counts[-1]
-            print(f"{name}: {right} right, {wrong} wrong, in {time.monotonic() - middle:.0f} s", file=self.out)
 
 
 def main():
     start = time.monotonic()
     listed = (0, 1) if trusted.wrong() else (1, 0)
     os.environ.setdefault("RT_JOBS", str(lanes()))
-    plays = Plays()
-    proofs = counted(["rt", "ci"], plays.hear)
+    proofs = counted(["rt", "ci"])
     print(f"proofs, tests and edits: {proofs[0]} right, {proofs[1]} wrong", flush=True)
-    if plays.ident is None:
-        plays.start()
-    plays.join()
-    print(plays.out.getvalue(), end="")
-    counts = [listed, proofs, *plays.counts]
+    counts = [listed, proofs]
+    for name, script in BEHIND:
+        middle = time.monotonic()
+        counts.append(counted([sys.executable, f"{ROOT}/{script}"]))
+        print(f"{name}: {counts[-1][0]} right, {counts[-1][1]} wrong, in {time.monotonic() - middle:.0f} s", flush=True)
     used = resource.getrusage(resource.RUSAGE_CHILDREN)
     print(f"{(time.monotonic() - start) / 60:.0f} minutes, {(used.ru_utime + used.ru_stime) / 60:.0f} of processor time")
     passed, failed = map(sum, zip(*counts))
