@@ -575,12 +575,20 @@ def ended(program, case, room):
     near, far = pty.openpty()
     run = subprocess.run(words, cwd=room, input=case.given, stdout=subprocess.PIPE, stderr=far, check=False, timeout=60)
     os.close(far)
-    try:
-        told = os.read(near, 4096)
-    except OSError:  # nothing was written
-        told = b""
+    told = written_on(near)
     os.close(near)
     return run, told.decode().replace("\r\n", "\n")
+
+
+def written_on(terminal):
+    """All that was written on a terminal whose far end is closed. It may come in pieces."""
+    told = b""
+    try:
+        while more := os.read(terminal, 4096):
+            told += more
+    except OSError:  # the end
+        pass
+    return told
 
 
 def wrong(program, case):
