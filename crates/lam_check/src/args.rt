@@ -22,10 +22,6 @@ static INPUT_ALONE: [&str; 1] = [INPUT];
 const ABOUT: &str = "Checks files in the typed lambda calculus with records and subtyping: \
     reports each error with its line and column.";
 
-const LATEX: &str = "Draws the tree in LaTeX, with the package bussproofs";
-
-const HTML: &str = "Draws the tree in HTML, with parts that can be folded";
-
 const STATUSES: &str =
     "Exit status: 0 if no file has an error, 1 if one has (with --why: if there is no \
     derivation; with --verify: if one is not accepted), 2 on a usage error, 4 if a file cannot be read or \
@@ -168,17 +164,26 @@ fn named<'a>(words: &'a [&'a str]) -> &'a [&'a str] {
 }
 
 fn command<'a>(alloc: Global) -> Result<Command<'a>, AllocError> {
-    let command = Command::new(alloc, NAME).about(ABOUT).after_help(STATUSES);
-    let command = command.arg(dialect(alloc))?;
-    let command = command.arg(types(alloc))?;
-    let command = command.arg(why(alloc))?;
-    let command = command.arg(flag(alloc, "latex", LATEX)?)?;
-    let html = flag(alloc, "html", HTML)?;
-    let command = command.arg(html.conflicts_with("latex")?)?;
-    let command = command.arg(json(alloc)?)?;
-    let command = command.arg(verify(alloc)?)?;
-    let command = command.arg(of(alloc)?)?;
-    command.arg(files(alloc))
+    let mut options = Vec::new(alloc);
+    push_options(alloc, &mut options)?;
+    Command::new(alloc, NAME)
+        .about(ABOUT)
+        .after_help(STATUSES)
+        .args(options)
+}
+
+/// Appends the options, in the order in which the help lists them, and the files.
+fn push_options<'a>(alloc: Global, options: &mut Vec<Arg<'a>>) -> Result<(), AllocError> {
+    options.push(dialect(alloc))?;
+    options.push(types(alloc))?;
+    options.push(why(alloc))?;
+    options.push(latex(alloc)?)?;
+    options.push(html(alloc)?)?;
+    options.push(json(alloc)?)?;
+    options.push(verify(alloc)?)?;
+    options.push(of(alloc)?)?;
+    options.push(files(alloc))?;
+    Ok(())
 }
 
 fn dialect<'a>(alloc: Global) -> Arg<'a> {
@@ -204,13 +209,21 @@ fn why<'a>(alloc: Global) -> Arg<'a> {
         .help("Draws a derivation of the type of the innermost term there, as a tree")
 }
 
-/// An option that selects the form of the tree.
-fn flag<'a>(alloc: Global, name: &'a str, help: &'a str) -> Result<Arg<'a>, AllocError> {
-    let form = Arg::new(alloc, name)
-        .long(name)
+fn latex<'a>(alloc: Global) -> Result<Arg<'a>, AllocError> {
+    Arg::new(alloc, "latex")
+        .long("latex")
         .action(ArgAction::SetTrue)
-        .help(help);
-    form.requires_arg("why")
+        .help("Draws the tree in LaTeX, with the package bussproofs")
+        .requires_arg("why")
+}
+
+fn html<'a>(alloc: Global) -> Result<Arg<'a>, AllocError> {
+    Arg::new(alloc, "html")
+        .long("html")
+        .action(ArgAction::SetTrue)
+        .help("Draws the tree in HTML, with parts that can be folded")
+        .requires_arg("why")?
+        .conflicts_with("latex")
 }
 
 fn json<'a>(alloc: Global) -> Result<Arg<'a>, AllocError> {
