@@ -1,11 +1,11 @@
 #!/usr/bin/env python3
 """build.py: proves the crates that the programs stand on, side by side, and builds them; says how far it is and how long is left.
 
-As many crates are proved at a time as there are processors, each once those below it are, those with the longest chain above
-them first. Where fewer crates are ready than there are processors, the processors that are left are shared out among them, but each
-process reads the libraries anew: so a crate gets no more processes than four, and one for each four minutes that it takes. `rt`
-locks what a crate stands on, so those that stand on one crate wait for each other. What was built before and has not changed is not
-built again.
+Each crate is proved once those below it are, those with the longest chain above them first. The one with the longest chain gets as many
+processes as there are processors, but no more than four, and one for each four minutes that it takes, since each process reads the libraries
+anew; the others get one, and a crate waits while there are more processes than processors. The libraries hold statements alone, as in the
+gate, which is all that those above them cite. `rt` locks what a crate stands on, so those that stand on one crate wait for each other. What
+was built before and has not changed is not built again.
 """
 
 import concurrent.futures
@@ -18,8 +18,8 @@ PROGRAMS = ("lam_server", "lam_check")
 ROOT = os.path.join(os.path.dirname(os.path.realpath(__file__)), "..")
 # Minutes of processor time that each crate took from nothing, on a machine of 2.5 GHz.
 MINUTES = {
-    "lam_token": 2, "lam_text": 1, "lam_frame": 2, "lam_rpc": 2, "lam_rules": 5, "lam_sub": 2, "lam_lattice": 2, "lam_syntax": 5,
-    "lam_scope": 20, "lam_typing": 10, "lam_query": 22, "lam_session": 9, "lam_server": 5, "lam_check": 13,
+    "lam_token": 2, "lam_text": 2, "lam_frame": 2, "lam_rpc": 2, "lam_rules": 6, "lam_sub": 3, "lam_lattice": 3, "lam_syntax": 7,
+    "lam_scope": 21, "lam_typing": 14, "lam_query": 26, "lam_session": 9, "lam_server": 5, "lam_check": 14,
 }
 
 
@@ -34,8 +34,8 @@ def crates():
     return {name: [it for it in words if it in below] for name, words in below.items()}
 
 
-def needed(below):
-    """The programs and all that they stand on, the lowest first."""
+def needed(below, tops=PROGRAMS):
+    """These crates and all that they stand on, the lowest first."""
     found = []
 
     def add(name):
@@ -44,8 +44,8 @@ def needed(below):
         if name not in found:
             found.append(name)
 
-    for program in PROGRAMS:
-        add(program)
+    for it in tops:
+        add(it)
     return found
 
 
@@ -59,7 +59,7 @@ def chains(below, work):
 
 def prove(name, jobs):
     """Proves a crate by that many processes; returns the minutes of processor time, or None where it fails, and prints then what it said."""
-    words = ["rt", "run", "--jobs", str(jobs), "--", "--help"] if name in PROGRAMS else ["rt", "lib", "--jobs", str(jobs)]
+    words = ["rt", "run", "--jobs", str(jobs), "--", "--help"] if name in PROGRAMS else ["rt", "lib", "--jobs", str(jobs), "--statements"]
     with subprocess.Popen(words, cwd=f"{ROOT}/crates/{name}", stdout=subprocess.PIPE, stderr=subprocess.STDOUT, text=True, errors="replace") as run:
         said = run.stdout.read()
         _, status, used = os.wait4(run.pid, 0)
@@ -70,10 +70,18 @@ def prove(name, jobs):
     return (used.ru_utime + used.ru_stime) / 60
 
 
+def processes(name, cores):
+    """How many processes prove the crate with the longest chain."""
+    return max(1, min(4, cores, MINUTES[name] // 4))
+
+
 def seconds_left(below, done, cores):
-    """A guess: the time that the processors need for all crates that are left, or that two of them need for the longest chain of these."""
+    """A guess, by how long the crates that are done took here: the time that the processors need for all that are left, or their processes
+    for the longest chain of these. Two take two thirds of the time of one, and three half of it."""
+    pace = sum(done.values()) / sum(MINUTES[it] for it in done) if any(done.values()) else 1
     work = {it: 0 if it in done else MINUTES[it] for it in needed(below)}
-    return 60 * max(sum(work.values()) / cores, max(chains(below, work).values()) / min(2, cores))
+    chain = {it: 2 * work[it] / (processes(it, cores) + 1) for it in work}
+    return 60 * pace * max(sum(work.values()) / cores, *chains(below, chain).values())
 
 
 def clock(seconds):
@@ -83,24 +91,26 @@ def clock(seconds):
 def main():
     below, start = crates(), time.monotonic()
     left, cores = needed(below), len(os.sched_getaffinity(0))
-    done, running, count = set(), {}, len(left)
-    left.sort(key=chains(below, MINUTES).get, reverse=True)
+    done, running, count = {}, {}, len(left)
+    length = chains(below, MINUTES)
+    left.sort(key=length.get, reverse=True)
     print(f"{count} crates to prove on {cores} processors, about {clock(seconds_left(below, done, cores))} from nothing", flush=True)
-    with concurrent.futures.ThreadPoolExecutor(cores) as pool:
+    with concurrent.futures.ThreadPoolExecutor(count) as pool:
         while left or running:
-            ready = [it for it in left if done.issuperset(below[it])]
-            share = cores // max(1, len(ready) + len(running))
-            for name in ready[: cores - len(running)]:
-                jobs = max(1, min(4, share, MINUTES[name] // 4))
+            longest = max(length[it] for it in [*left, *(name for name, _ in running.values())])
+            for name in [it for it in left if all(under in done for under in below[it])]:
+                if sum(jobs for _, jobs in running.values()) > cores:
+                    break
+                jobs = processes(name, cores) if length[name] == longest else 1
                 left.remove(name)
-                running[pool.submit(prove, name, jobs)] = name
+                running[pool.submit(prove, name, jobs)] = name, jobs
             for it in concurrent.futures.wait(running, return_when=concurrent.futures.FIRST_COMPLETED).done:
-                name, minutes = running.pop(it), it.result()
+                (name, _), minutes = running.pop(it), it.result()
                 if minutes is None:
                     sys.exit(f"{name} is not proved")
-                done.add(name)
+                done[name] = minutes
                 rest = seconds_left(below, done, cores)
-                ahead = f", at most about {clock(rest)} left" if rest else ""
+                ahead = f", about {clock(rest)} left" if rest else ""
                 print(f"{name} is proved, {minutes:.1f} min of one processor: {len(done)} of {count} crates, {clock(time.monotonic() - start)}{ahead}", flush=True)
 
 
