@@ -2,8 +2,9 @@
 """dear.py [NAME..]: proves crates from nothing, one process each, and prints the minutes of processor time of each and their twenty
 costliest functions. Without names it proves all crates, which takes the better part of an hour.
 
-A checked module is kept as a file when it is done, so in a run of one process the gap before a file is what its module took. A
-function stands for all modules that are made of it, and a cycle of functions for one. The kept work of a crate is made anew.
+A checked module is kept as a file when it is done, so in a run of one process the gap before a file is what its module took; but behind a
+module TheLink, the last of a process, it is what the next process took to load the libraries, and counts for none. A function stands for all
+modules that are made of it, and a cycle of functions for one. The kept work of a crate is made anew.
 """
 
 import collections
@@ -43,10 +44,10 @@ def functions(name):
     seconds = collections.Counter()
     for at in glob.glob(f"{ROOT}/crates/{name}/out/incremental/antt-checked*/"):
         kept = sorted((os.stat(at + it).st_mtime_ns, it) for it in os.listdir(at) if it.endswith(".oantt"))
-        for (before, _), (after, file) in zip(kept, kept[1:]):
+        for (before, last), (after, file) in zip(kept, kept[1:]):
             module = file.removesuffix(".oantt")
             own = MODULE.match(module)
-            if own and own[1] == name:
+            if own and own[1] == name and not last.endswith(".TheLink.oantt"):
                 module = module[own.end() :]
                 part = PART.search(module)
                 seconds[f"{name}::{(module[: part.start()] if part else module).replace('.', '::')}"] += (after - before) / 1e9
