@@ -2,7 +2,7 @@
 """build.py: proves the crates that the programs stand on, side by side, and builds them; says how far it is and how long is left.
 
 Each crate is proved once those below it are, those with the longest chain above them first. The one with the longest chain gets as many
-processes as there are processors, but no more than four, and one for each four minutes that it takes, since each process reads the libraries
+processes as there are processors, but no more than four, and one for each five minutes that it takes, since each process reads the libraries
 anew; the others get one, and a crate waits while there are more processes than processors. The libraries hold statements alone, as in the
 gate, which is all that those above them cite. `rt` locks what a crate stands on, so those that stand on one crate wait for each other. What
 was built before and has not changed is not built again.
@@ -16,10 +16,10 @@ import time
 
 PROGRAMS = ("lam_server", "lam_check")
 ROOT = os.path.join(os.path.dirname(os.path.realpath(__file__)), "..")
-# Minutes of processor time that each crate took from nothing, on a machine of 2.5 GHz.
+# Minutes of processor time that each crate took here from nothing, on two processors of 2.5 GHz.
 MINUTES = {
-    "lam_token": 2, "lam_text": 2, "lam_frame": 2, "lam_rpc": 2, "lam_rules": 6, "lam_sub": 3, "lam_lattice": 3, "lam_syntax": 7,
-    "lam_scope": 21, "lam_typing": 14, "lam_query": 26, "lam_session": 9, "lam_server": 5, "lam_check": 14,
+    "lam_token": 2, "lam_text": 2, "lam_frame": 3, "lam_rpc": 2, "lam_rules": 7, "lam_sub": 3, "lam_lattice": 3, "lam_syntax": 7,
+    "lam_scope": 24, "lam_typing": 15, "lam_query": 35, "lam_session": 18, "lam_server": 9, "lam_check": 27,
 }
 
 
@@ -72,16 +72,18 @@ def prove(name, jobs):
 
 def processes(name, cores):
     """How many processes prove the crate with the longest chain."""
-    return max(1, min(4, cores, MINUTES[name] // 4))
+    return max(1, min(4, cores, MINUTES[name] // 5))
 
 
 def seconds_left(below, done, cores):
     """A guess, by how long the crates that are done took here: the time that the processors need for all that are left, or their processes
-    for the longest chain of these. Two take two thirds of the time of one, and three half of it."""
+    for the longest chain of these, with both programs, which wait for each other. Two take two thirds of the time of one, and three half."""
     pace = sum(done.values()) / sum(MINUTES[it] for it in done) if any(done.values()) else 1
     work = {it: 0 if it in done else MINUTES[it] for it in needed(below)}
     chain = {it: 2 * work[it] / (processes(it, cores) + 1) for it in work}
-    return 60 * pace * max(sum(work.values()) / cores, *chains(below, chain).values())
+    first, last = PROGRAMS
+    in_turn = {**below, last: [*below[last], first]}
+    return 60 * pace * max(sum(work.values()) / cores, *chains(in_turn, chain).values())
 
 
 def clock(seconds):
