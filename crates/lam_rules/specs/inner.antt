@@ -1,1 +1,2 @@
 pub mod TypeCodes
+pub mod Parts

@@ -9,6 +9,7 @@
 
 mod laws;
 mod numbers;
+mod parts;
 mod rules;
 mod sorting;
 mod subtyping;
