@@ -77,10 +77,11 @@ def processes(name, cores):
 
 def seconds_left(below, done, cores):
     """A guess, by how long the crates that are done took here: the time that the processors need for all that are left, or their processes
-    for the longest chain of these, with both programs, which wait for each other. Two take two thirds of the time of one, and three half."""
+    for the longest chain of these, with both programs, which wait for each other. Two take three quarters of the time of one, and four half."""
     pace = sum(done.values()) / sum(MINUTES[it] for it in done) if any(done.values()) else 1
     work = {it: 0 if it in done else MINUTES[it] for it in needed(below)}
-    chain = {it: 2 * work[it] / (processes(it, cores) + 1) for it in work}
+    jobs = {it: processes(it, cores) for it in work}
+    chain = {it: work[it] / jobs[it] + (work[it] / 4 if jobs[it] > 1 else 0) for it in work}
     first, last = PROGRAMS
     in_turn = {**below, last: [*below[last], first]}
     return 60 * pace * max(sum(work.values()) / cores, *chains(in_turn, chain).values())

@@ -1,72 +1,108 @@
 #!/usr/bin/env python3
-"""dear.py [NAME..]: proves crates from nothing, one process each, and prints the minutes of processor time of each and their twenty
-costliest functions. Without names it proves all crates, which takes the better part of an hour.
+"""dear.py [--anew] [NAME..]: runs `rt ci` with these words, and prints the minutes of processor time that it took for each crate's proof, tests
+and wrong edits, and the twenty costliest functions of the proofs.
 
-A checked module is kept as a file when it is done, so in a run of one process the gap before a file is what its module took; but behind a
-module TheLink, the last of a process, it is what the next process took to load the libraries, and counts for none. A function stands for all
-modules that are made of it, and a cycle of functions for one. The kept work of a crate is made anew.
+A crate is proved by one process, which puts each checked module into a file of its own, so the gap before a file is what its module took. A
+function stands for all modules that are made of it, and a cycle of functions for one. What `rt ci` passed before, in any copy of the
+crates, it does not prove again unless with --anew, and then it proves all that was named and what that stands on.
 """
 
 import collections
 import glob
 import os
 import re
-import resource
-import shutil
 import subprocess
 import sys
+import tempfile
+import time
 
-from build import ROOT, crates, needed
-
+ROOT = os.path.join(os.path.dirname(os.path.realpath(__file__)), "..")
+TICKS = os.sysconf("SC_CLK_TCK")
 MODULE = re.compile(r"^Rattle[-.](\w+)[-.](?:specs\.contracts|proofs)\.")
 PART = re.compile(r"\.(Lts|Proof|Answers|Goals|Tie|Kinds|Layout|Key|Mir|Code)\b.*")
 
 
-def processor_seconds():
-    used = resource.getrusage(resource.RUSAGE_CHILDREN)
-    return used.ru_utime + used.ru_stime
+class Process:
+    """A process of the prover: its crate, what it is for, its seconds so far, and when it wrote each module."""
+
+    def __init__(self, pid, words):
+        self.crate = words[words.index("--crate-name") + 1]
+        is_edit = os.path.basename(os.readlink(f"/proc/{pid}/cwd")).startswith("rt-edit-")
+        self.task = "edits" if is_edit else "tests" if "--test" in words else "proof"
+        self.seconds, self.written = 0, {}
+
+    def look(self, pid, room):
+        with open(f"/proc/{pid}/stat", encoding="utf-8") as it:
+            words = it.read().rpartition(")")[2].split()
+        self.seconds = (int(words[11]) + int(words[12])) / TICKS
+        for folder in glob.glob(f"{room}/rattle-logic-built-*-{pid}-*/"):
+            for it in os.scandir(folder):
+                if it.name.endswith(".oantt") and it.name not in self.written:
+                    self.written[it.name] = it.stat().st_mtime
 
 
-def prove(name):
-    """Proves a crate from nothing, over the statements of those below it; returns its seconds, and whether it is proved."""
-    quiet = {"stdout": subprocess.DEVNULL, "stderr": subprocess.DEVNULL, "check": False}
-    for it in needed(crates(), [name])[:-1]:
-        subprocess.run(["rt", "lib", "--jobs", "1", "--statements"], cwd=f"{ROOT}/crates/{it}", **quiet)
-    folder = f"{ROOT}/crates/{name}"
-    shutil.rmtree(f"{folder}/out/incremental", ignore_errors=True)
-    start = processor_seconds()
-    done = subprocess.run(["rt", "check", "--jobs", "1"], cwd=folder, **quiet)
-    return processor_seconds() - start, done.returncode == 0
+def provers(session):
+    """The words of each process of the prover in this session, by its number."""
+    for pid in filter(str.isdigit, os.listdir("/proc")):
+        try:
+            with open(f"/proc/{pid}/cmdline", encoding="utf-8", errors="replace") as it:
+                words = it.read().split("\0")
+            if "--crate-name" in words and os.getsid(int(pid)) == session:
+                yield int(pid), words
+        except OSError:
+            pass
 
 
-def functions(name):
-    """The seconds of each function of the crate, by the times of the files that were kept."""
+def watched(words):
+    """Runs `rt ci` with these words; returns the processes of the prover that it started, and its exit status."""
+    found = {}
+    with tempfile.TemporaryDirectory(prefix="dear-") as room:
+        os.chmod(room, 0o711)
+        with subprocess.Popen(["rt", "ci", *words], cwd=ROOT, env={**os.environ, "TMPDIR": room}, start_new_session=True) as run:
+            while run.poll() is None:
+                for pid, said in provers(run.pid):
+                    try:
+                        if pid not in found:
+                            found[pid] = Process(pid, said)
+                        found[pid].look(pid, room)
+                    except OSError:
+                        pass
+                time.sleep(1)
+    return found.values(), run.returncode
+
+
+def functions(process):
+    """The seconds of each function of the crate, by the times at which its modules were written."""
     seconds = collections.Counter()
-    for at in glob.glob(f"{ROOT}/crates/{name}/out/incremental/antt-checked*/"):
-        kept = sorted((os.stat(at + it).st_mtime_ns, it) for it in os.listdir(at) if it.endswith(".oantt"))
-        for (before, last), (after, file) in zip(kept, kept[1:]):
-            module = file.removesuffix(".oantt")
-            own = MODULE.match(module)
-            if own and own[1] == name and not last.endswith(".TheLink.oantt"):
-                module = module[own.end() :]
-                part = PART.search(module)
-                seconds[f"{name}::{(module[: part.start()] if part else module).replace('.', '::')}"] += (after - before) / 1e9
+    written = sorted((when, file.removesuffix(".oantt")) for file, when in process.written.items())
+    for (before, _), (after, module) in zip(written, written[1:]):
+        own = MODULE.match(module)
+        if own and own[1] == process.crate:
+            module = module[own.end() :]
+            part = PART.search(module)
+            seconds[f"{process.crate}::{(module[: part.start()] if part else module).replace('.', '::')}"] += after - before
     return seconds
 
 
-def main():
-    below = crates()
-    names = sys.argv[1:] or sorted(below)
-    dearest, whole = collections.Counter(), 0
-    for name in names:
-        seconds, is_proved = prove(name)
-        whole += seconds
-        dearest += functions(name)
-        print(f"{seconds / 60:6.1f} min  {name}{'' if is_proved else ': NOT PROVED'}", flush=True)
-    print(f"{whole / 60:6.1f} min in all; the dearest functions, in seconds:")
+def report(processes):
+    minutes, dearest = collections.defaultdict(collections.Counter), collections.Counter()
+    for it in processes:
+        minutes[it.crate][it.task] += it.seconds / 60
+        if it.task == "proof":
+            dearest += functions(it)
+    print("minutes of processor time:   proof   tests   edits")
+    for name, tasks in sorted(minutes.items(), key=lambda it: -sum(it[1].values())):
+        print(f"{name:26}" + "".join(f"{tasks[it]:8.1f}" for it in ("proof", "tests", "edits")))
+    print("the costliest functions, in seconds:")
     for name, seconds in dearest.most_common(20):
         print(f"{seconds:6.1f}  {name}")
 
 
+def main():
+    processes, status = watched(sys.argv[1:])
+    report(processes)
+    return status
+
+
 if __name__ == "__main__":
-    main()
+    sys.exit(main())
