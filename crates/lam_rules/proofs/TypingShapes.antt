@@ -36,6 +36,9 @@ typing_wf g e (typing_step r t ps s) d h = h.1
 pub typing_wf_of : (g : Context) (e : Term) (p : TypeProof) (d : Dialect) → IsTyping g e (typing_tree_of p) d → IsWellFormed (typ_of (out-TypeProof p).ty)
 typing_wf_of g e p d h = rw (type_in-typing_tree_of p) at (typing_wf g e (typing_tree_of p) d h)
 
+pub typing_inner_wf : (t : Typ) (g : Context) (e : Term) (p : TypingTree) (d : Dialect) → IsTyping (Some t ∷ g) e p d → IsWellFormed t
+typing_inner_wf t g e (typing_step r u ps s) d h = h.0.0
+
 -- lists of premises
 
 pub typings_of-drop : (ps : List TypeProof) (i : ℕ) (p : TypeProof) → i < length ps → p ≡ get_or ps i p

@@ -9,7 +9,6 @@ pub mod Terms
 pub mod TermViews
 pub mod Typing
 pub mod TypingViews
-pub mod TypingSteps
 pub mod Sorting
 pub mod SharedTexts
 pub mod ReadableLabels

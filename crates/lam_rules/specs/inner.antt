@@ -1,2 +1,1 @@
 pub mod TypeCodes
-pub mod Parts

@@ -9,7 +9,6 @@
 
 mod laws;
 mod numbers;
-mod parts;
 mod rules;
 mod sorting;
 mod subtyping;
