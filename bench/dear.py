@@ -3,7 +3,8 @@
 and wrong edits, and the twenty costliest functions of the proofs.
 
 A crate is proved by one process, which puts each checked module into a file of its own, so the gap before a file is what its module took. A
-function stands for all modules that are made of it, and a cycle of functions for one. What `rt ci` passed before, in any copy of the
+function stands for all modules that are made of it, and a cycle of functions for one. These are seconds by the clock, which other work on
+the machine lengthens. What `rt ci` passed before, in any copy of the
 crates, it does not prove again unless with --anew, and then it proves all that was named and what that stands on.
 """
 
