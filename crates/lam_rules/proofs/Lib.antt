@@ -6,6 +6,7 @@ pub mod TypingShapes
 pub mod RuleForms
 pub mod Contexts
 pub mod RulesHere
+pub mod TypingSteps
 pub mod ByShape
 pub mod SortedForms
 pub mod LabelOrder

@@ -9,6 +9,8 @@ pub mod Terms
 pub mod TermViews
 pub mod Typing
 pub mod TypingViews
+pub mod TypingSteps
+pub mod Parts
 pub mod Sorting
 pub mod SharedTexts
 pub mod ReadableLabels

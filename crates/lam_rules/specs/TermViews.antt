@@ -1,6 +1,7 @@
 -- The plain tree that a `Core` represents.
 use Rattle.std.specs.Prelude.{List, [], ◌∷◌, String, string_bytes, Option}
-use Rattle.std.specs.Option.{option_map}
+use Rattle.std.specs.Borrow.{Bor}
+use Rattle.std.specs.Option.{option_map, option_copied}
 use Rattle.std.specs.declared.alloc.Global.{Global}
 use Rattle.lam_rules.specs.Types.{Typ}
 use Rattle.lam_rules.specs.TypeViews.{typ_of}
@@ -12,6 +13,10 @@ use Rattle.lam_rules.specs.declared.terms.Core.TheOpen.{Core-F}
 -- the written type, if there is one
 abbrev pub written_of : Option Ty → Option Typ
 written_of = option_map typ_of
+
+-- the type behind a reference, if there is one
+abbrev pub lent_of : Option (Bor Ty) → Option Typ
+lent_of entry = written_of (option_copied entry)
 
 -- labeled terms as the fields of a record
 abbrev pub terms_made : List (String Global × Term) → TermFields

@@ -1,12 +1,13 @@
 -- What a context of types and a `TypeProof` represent.
-use Rattle.std.specs.Prelude.{List, [], ◌∷◌, ◌++◌, Option, Some}
+use Rattle.std.specs.Prelude.{List, [], ◌∷◌, ◌++◌, Option}
 use Rattle.std.specs.Option.{option_map}
 use Rattle.lam_rules.specs.TypeViews.{typ_of}
-use Rattle.lam_rules.specs.TermViews.{written_of}
+use Rattle.lam_rules.specs.TermViews.{written_of, lent_of}
 use Rattle.lam_rules.specs.SubViews.{sub_tree_of}
+use Rattle.lam_rules.specs.Types.{Typ}
 use Rattle.lam_rules.specs.Typing.{Context, TypingTree, typing_step, TypingTrees, no_typings, typing_first}
 use Rattle.lam_rules.specs.declared.types.Ty.{Ty}
-use Rattle.lam_rules.specs.declared.typing.TypeProof.{TypeProof, TypeProof-F, fold-TypeProof}
+use Rattle.lam_rules.specs.declared.typing.TypeProof.{TypeProof, TypeProof-F, fold-TypeProof, out-TypeProof}
 use Rattle.lam_rules.specs.declared.typing.Entries.{Entries, fold-Entries}
 use Rattle.lam_rules.specs.declared.typing.Entries.TheOpen.{Entries-F}
 
@@ -18,7 +19,7 @@ context_of (entry ∷ inner) = context_of inner ++ written_of entry ∷ []
 -- one level: the context of the given entries, or with one more entry inside
 abbrev pub entries_step : Entries-F Context → Context
 entries_step (Entries-F.Given outer) = context_of outer.now
-entries_step (Entries-F.Under ty rest) = Some (typ_of ty.now) ∷ rest.now
+entries_step (Entries-F.Under entry rest) = lent_of entry ∷ rest.now
 
 -- the context of the given entries and the binders added since
 unfoldable pub entries_of : Entries → Context
@@ -41,3 +42,8 @@ typing_tree_of = fold-TypeProof TypingTree typing_tree_step
 abbrev pub typings_of : List TypeProof → TypingTrees
 typings_of [] = no_typings
 typings_of (p ∷ ps) = typing_first (typing_tree_of p) (typings_of ps)
+
+-- the types that several `TypeProof`s conclude
+abbrev pub types_concluded : List TypeProof → List Typ
+types_concluded [] = []
+types_concluded (p ∷ ps) = typ_of (out-TypeProof p).ty ∷ types_concluded ps

@@ -9,6 +9,7 @@
 
 mod laws;
 mod numbers;
+mod parts;
 mod rules;
 mod sorting;
 mod subtyping;
@@ -20,6 +21,7 @@ mod typing;
 
 pub use laws::{one_text, types_below_each_other_have_one_size};
 pub use numbers::{Shape, TyNo, labels_differ, number_under};
+pub use parts::{Part, part_of};
 pub use rules::{Dialect, SubRule, TypeRule};
 pub use subtyping::{SubProof, check_sub, check_sub_step};
 pub use table::TyTable;
@@ -28,4 +30,4 @@ pub use texts::{one_sorted_form, plain_text_of, text_of};
 pub use types::{
     Fields, Ty, copy_of, copy_of_fields, make_arrow, make_record, same, same_fields, size, wf,
 };
-pub use typing::{TypeProof, check_type};
+pub use typing::{TypeProof, check_type, check_type_step, wf_context};

@@ -1,14 +1,18 @@
 //! Derivation trees of typing, and a checker for them.
 
-ghost use Rattle.std.specs.Prelude.{◌↔◌, IsTrue, ◌∷◌, Option, Some, None};
-ghost use Rattle.lam_rules.specs.Types.{IsWellFormed, record_of};
+ghost use Rattle.std.specs.Prelude.{◌≡◌, ◌↔◌, IsTrue, Some, None};
+ghost use Rattle.std.specs.Option.{option_map};
+ghost use Rattle.lam_rules.specs.Parts.{subject_in};
+ghost use Rattle.lam_rules.specs.Types.{record_of};
 ghost use Rattle.lam_rules.specs.TypeViews.{typ_of, fields_of};
-ghost use Rattle.lam_rules.specs.Terms.{record_term};
-ghost use Rattle.lam_rules.specs.TermViews.{term_of, terms_of, written_of};
-ghost use Rattle.lam_rules.specs.SubViews.{sub_tree_of};
-ghost use Rattle.lam_rules.specs.Typing.{IsTyping, ByTypeRule, IsWellFormedContext, IsWellFormedEntry, IsEntry, Context, ProvesTyping};
-ghost use Rattle.lam_rules.specs.TypingViews.{context_of, entries_of, typing_tree_of, typings_of};
+ghost use Rattle.lam_rules.specs.Terms.{Term, record_term};
+ghost use Rattle.lam_rules.specs.TermViews.{lent_of, term_of, terms_of};
+ghost use Rattle.lam_rules.specs.SubViews.{claim_of, sub_tree_of};
+ghost use Rattle.lam_rules.specs.Typing.{IsTyping, IsWellFormedContext, IsWellFormedEntry, IsEntry, Context};
+ghost use Rattle.lam_rules.specs.TypingSteps.{first_type, subjects, AreTypings, FitsRule, IsSideProof, IsTypingStep};
+ghost use Rattle.lam_rules.specs.TypingViews.{context_of, entries_of, types_concluded, typing_tree_of, typings_of};
 
+use crate::parts::{Part, part_of};
 use crate::rules::{Dialect, TypeRule};
 use crate::subtyping::{SubProof, check_sub};
 use crate::terms::Core;
@@ -24,12 +28,12 @@ pub struct TypeProof {
     pub sub: Option<Box<SubProof>>,
 }
 
-/// The context at a subterm: the given entries, from the outermost binder to the innermost, or the type of one more
+/// The context at a subterm: the given entries, from the outermost binder to the innermost, or the entry of one more
 /// binder and the entries outside it.
 #[derive(Clone, Copy)]
 enum Entries<'a> {
     Given(&'a [Option<Ty>]),
-    Under(&'a Ty, &'a Entries<'a>),
+    Under(Option<&'a Ty>, &'a Entries<'a>),
 }
 
 /// Whether a tree is a valid proof that types this term in this context and dialect. Entries are ordered from the
@@ -43,19 +47,20 @@ pub fn check_type(context: &[Option<Ty>], term: &Core, proof: &TypeProof, dialec
     check_in(proof, &Entries::Given(context), term, dialect)
 }
 
-fn wf_context(context: &[Option<Ty>]) -> bool
+/// Whether the types of a context have distinct labels, at every depth.
+pub fn wf_context(context: &[Option<Ty>]) -> bool
     ensures { IsTrue result ↔ IsWellFormedContext (context_of context.now) }
 {
     for entry in context {
-        if !wf_entry(entry) {
+        if !wf_entry(entry.as_ref()) {
             return false;
         }
     }
     true
 }
 
-fn wf_entry(entry: &Option<Ty>) -> bool
-    ensures { IsTrue result ↔ IsWellFormedEntry (written_of entry.now) }
+fn wf_entry(entry: Option<&Ty>) -> bool
+    ensures { IsTrue result ↔ IsWellFormedEntry (lent_of entry.entry) }
 {
     match entry {
         Some(ty) => wf(ty),
@@ -68,41 +73,105 @@ fn check_in(proof: &TypeProof, entries: &Entries, term: &Core, dialect: Dialect)
     requires { IsWellFormedContext (entries_of entries.now) }
     ensures { IsTrue result ↔ IsTyping (entries_of entries.now) (term_of term.now) (typing_tree_of proof.now) dialect }
 {
+    if !fits(proof, entries, term) {
+        return false;
+    }
+    if !is_side_proof(&proof.sub, dialect) {
+        return false;
+    }
+    check_premises(&proof.typing, proof.rule, entries, term, dialect)
+}
+
+/// Whether each premise of a step by this rule is a valid proof about its part of the term.
+#[cycle(check_type)]
+fn check_premises(
+    premises: &[TypeProof],
+    rule: TypeRule,
+    entries: &Entries,
+    term: &Core,
+    dialect: Dialect,
+) -> bool
+    requires { IsWellFormedContext (entries_of entries.now) }
+    ensures { IsTrue result ↔ AreTypings (subjects rule (entries_of entries.now) (term_of term.now) (first_type (typings_of premises.now))) (typings_of premises.now) dialect }
+{
+    let first = first_type(premises);
+    for k in 0..premises.len() {
+        let premise = &premises[k];
+        let Some(part) = part_of(rule, term, first, k) else {
+            return false;
+        };
+        if !check_part(premise, entries, part, dialect) {
+            return false;
+        }
+    }
+    true
+}
+
+#[cycle(check_type)]
+fn check_part(premise: &TypeProof, entries: &Entries, part: Part, dialect: Dialect) -> bool
+    requires { IsWellFormedContext (entries_of entries.now) }
+    ensures { let s = subject_in (entries_of entries.now) part.entry in IsTrue result ↔ IsTyping s.context s.term (typing_tree_of premise.now) dialect }
+{
+    match part {
+        Part::Plain(term) => check_in(premise, entries, term, dialect),
+        Part::Under(entry, term) => {
+            if !wf_entry(entry) {
+                return false;
+            }
+            check_in(premise, &Entries::Under(entry, &*entries), term, dialect)
+        }
+    }
+}
+
+fn is_side_proof(side: &Option<Box<SubProof>>, dialect: Dialect) -> bool
+    ensures { IsTrue result ↔ IsSideProof (option_map (λ q. sub_tree_of q.value) side.now) dialect }
+{
+    match side {
+        Some(proof) => check_sub(proof, dialect),
+        None => true,
+    }
+}
+
+/// The type that the first premise concludes.
+fn first_type(premises: &[TypeProof]) -> Option<&Ty>
+    ensures { lent_of result ≡ first_type (typings_of premises.now) }
+{
+    match premises.first() {
+        Some(first) => Some(&first.ty),
+        None => None,
+    }
+}
+
+/// Whether the last step of a tree follows by its rule from the conclusions of its premises, whether these are proved or
+/// not, in this context, as `check_type` takes it.
+pub fn check_type_step(context: &[Option<Ty>], term: &Core, proof: &TypeProof) -> bool
+    ensures { IsTrue result ↔ IsTypingStep (context_of context.now) (term_of term.now) (typing_tree_of proof.now) }
+{
+    fits(proof, &Entries::Given(context), term)
+}
+
+fn fits(proof: &TypeProof, entries: &Entries, term: &Core) -> bool
+    ensures { IsTrue result ↔ IsTypingStep (entries_of entries.now) (term_of term.now) (typing_tree_of proof.now) }
+{
     if !wf(&proof.ty) {
         return false;
     }
     match &proof.sub {
         Some(sub) => match proof.rule {
-            TypeRule::Sub => by_sub(&proof.typing, sub, entries, term, &proof.ty, dialect),
+            TypeRule::Sub => by_sub(&proof.typing, sub, &proof.ty),
             _ => false,
         },
-        None => by_rule(&proof.typing, proof.rule, entries, term, &proof.ty, dialect),
+        None => by_rule(&proof.typing, proof.rule, entries, term, &proof.ty),
     }
 }
 
 /// T-Sub.
-#[cycle(check_type)]
-fn by_sub(
-    premises: &[TypeProof],
-    sub: &SubProof,
-    entries: &Entries,
-    term: &Core,
-    ty: &Ty,
-    dialect: Dialect,
-) -> bool
-    requires context { IsWellFormedContext (entries_of entries.now) }
-    requires ty { IsWellFormed (typ_of ty.now) }
-    ensures { IsTrue result ↔ ByTypeRule TypeRule.Sub (Some (sub_tree_of sub.now)) (entries_of entries.now) (term_of term.now) (typ_of ty.now) (typings_of premises.now) dialect }
+fn by_sub(premises: &[TypeProof], sub: &SubProof, ty: &Ty) -> bool
+    ensures { (g : Context) (e : Term) → (IsTrue result ↔ FitsRule TypeRule.Sub (Some (claim_of sub.now)) g e (typ_of ty.now) (types_concluded premises.now)) }
 {
     let [premise] = premises else {
         return false;
     };
-    if !check_in(premise, entries, term, dialect) {
-        return false;
-    }
-    if !check_sub(sub, dialect) {
-        return false;
-    }
     if !same(&sub.lower, &premise.ty) {
         return false;
     }
@@ -110,80 +179,33 @@ fn by_sub(
 }
 
 /// All rules except T-Sub.
-#[cycle(check_type)]
-fn by_rule(
-    premises: &[TypeProof],
-    rule: TypeRule,
-    entries: &Entries,
-    term: &Core,
-    ty: &Ty,
-    dialect: Dialect,
-) -> bool
-    requires context { IsWellFormedContext (entries_of entries.now) }
-    requires ty { IsWellFormed (typ_of ty.now) }
-    ensures { IsTrue result ↔ ByTypeRule rule None (entries_of entries.now) (term_of term.now) (typ_of ty.now) (typings_of premises.now) dialect }
+fn by_rule(premises: &[TypeProof], rule: TypeRule, entries: &Entries, term: &Core, ty: &Ty) -> bool
+    ensures { IsTrue result ↔ FitsRule rule None (entries_of entries.now) (term_of term.now) (typ_of ty.now) (types_concluded premises.now) }
 {
     match rule {
         TypeRule::True => by_true(premises, term, ty),
         TypeRule::False => by_false(premises, term, ty),
-        TypeRule::If => by_if(premises, entries, term, ty, dialect),
+        TypeRule::If => by_if(premises, term, ty),
         TypeRule::Num => by_num(premises, term, ty),
-        TypeRule::Succ => by_succ(premises, entries, term, ty, dialect),
-        TypeRule::Pred => by_pred(premises, entries, term, ty, dialect),
-        TypeRule::IsZero => by_is_zero(premises, entries, term, ty, dialect),
+        TypeRule::Succ => by_succ(premises, term, ty),
+        TypeRule::Pred => by_pred(premises, term, ty),
+        TypeRule::IsZero => by_is_zero(premises, term, ty),
         TypeRule::Var => by_var(premises, entries, term, ty),
-        TypeRule::Abs => by_abs(premises, entries, term, ty, dialect),
-        TypeRule::App => by_app(premises, entries, term, ty, dialect),
+        TypeRule::Abs => by_abs(premises, term, ty),
+        TypeRule::App => by_app(premises, term, ty),
         TypeRule::Unit => by_unit(premises, term, ty),
-        TypeRule::Ascribe => by_ascribe(premises, entries, term, ty, dialect),
-        TypeRule::Let => by_let(premises, entries, term, ty, dialect),
-        TypeRule::Rcd => by_rcd(premises, entries, term, ty, dialect),
-        TypeRule::Proj => by_proj(premises, entries, term, ty, dialect),
-        TypeRule::Fix => by_fix(premises, entries, term, ty, dialect),
+        TypeRule::Ascribe => by_ascribe(premises, term, ty),
+        TypeRule::Let => by_let(premises, term, ty),
+        TypeRule::Rcd => by_rcd(premises, term, ty),
+        TypeRule::Proj => by_proj(premises, term, ty),
+        TypeRule::Fix => by_fix(premises, term, ty),
         TypeRule::Sub => false,
     }
 }
 
-/// Whether a tree proves that the term has exactly this type.
-#[cycle(check_type)]
-fn proves(proof: &TypeProof, entries: &Entries, term: &Core, ty: &Ty, dialect: Dialect) -> bool
-    requires { IsWellFormedContext (entries_of entries.now) }
-    ensures { IsTrue result ↔ ProvesTyping (typing_tree_of proof.now) (entries_of entries.now) (term_of term.now) (typ_of ty.now) dialect }
-{
-    if !check_in(proof, entries, term, dialect) {
-        return false;
-    }
-    same(&proof.ty, ty)
-}
-
-/// Whether a tree proves that the term has exactly this type under one more binder, of type `inner`.
-#[cycle(check_type)]
-fn proves_under(
-    proof: &TypeProof,
-    inner: &Ty,
-    entries: &Entries,
-    term: &Core,
-    ty: &Ty,
-    dialect: Dialect,
-) -> bool
-    requires { IsWellFormedContext (entries_of entries.now) }
-    ensures { IsTrue result ↔ ProvesTyping (typing_tree_of proof.now) (Some (typ_of inner.now) ∷ entries_of entries.now) (term_of term.now) (typ_of ty.now) dialect }
-{
-    if !wf(inner) {
-        return false;
-    }
-    proves(
-        proof,
-        &Entries::Under(&*inner, &*entries),
-        term,
-        ty,
-        dialect,
-    )
-}
-
 /// T-True.
 fn by_true(premises: &[TypeProof], term: &Core, ty: &Ty) -> bool
-    ensures { (g : Context) (d : Dialect) → (IsTrue result ↔ ByTypeRule TypeRule.True None g (term_of term.now) (typ_of ty.now) (typings_of premises.now) d) }
+    ensures { (g : Context) → (IsTrue result ↔ FitsRule TypeRule.True None g (term_of term.now) (typ_of ty.now) (types_concluded premises.now)) }
 {
     if !premises.is_empty() {
         return false;
@@ -196,7 +218,7 @@ fn by_true(premises: &[TypeProof], term: &Core, ty: &Ty) -> bool
 
 /// T-False.
 fn by_false(premises: &[TypeProof], term: &Core, ty: &Ty) -> bool
-    ensures { (g : Context) (d : Dialect) → (IsTrue result ↔ ByTypeRule TypeRule.False None g (term_of term.now) (typ_of ty.now) (typings_of premises.now) d) }
+    ensures { (g : Context) → (IsTrue result ↔ FitsRule TypeRule.False None g (term_of term.now) (typ_of ty.now) (types_concluded premises.now)) }
 {
     if !premises.is_empty() {
         return false;
@@ -209,7 +231,7 @@ fn by_false(premises: &[TypeProof], term: &Core, ty: &Ty) -> bool
 
 /// T-Num.
 fn by_num(premises: &[TypeProof], term: &Core, ty: &Ty) -> bool
-    ensures { (g : Context) (d : Dialect) → (IsTrue result ↔ ByTypeRule TypeRule.Num None g (term_of term.now) (typ_of ty.now) (typings_of premises.now) d) }
+    ensures { (g : Context) → (IsTrue result ↔ FitsRule TypeRule.Num None g (term_of term.now) (typ_of ty.now) (types_concluded premises.now)) }
 {
     if !premises.is_empty() {
         return false;
@@ -222,7 +244,7 @@ fn by_num(premises: &[TypeProof], term: &Core, ty: &Ty) -> bool
 
 /// T-Unit.
 fn by_unit(premises: &[TypeProof], term: &Core, ty: &Ty) -> bool
-    ensures { (g : Context) (d : Dialect) → (IsTrue result ↔ ByTypeRule TypeRule.Unit None g (term_of term.now) (typ_of ty.now) (typings_of premises.now) d) }
+    ensures { (g : Context) → (IsTrue result ↔ FitsRule TypeRule.Unit None g (term_of term.now) (typ_of ty.now) (types_concluded premises.now)) }
 {
     if !premises.is_empty() {
         return false;
@@ -235,7 +257,7 @@ fn by_unit(premises: &[TypeProof], term: &Core, ty: &Ty) -> bool
 
 /// T-Var.
 fn by_var(premises: &[TypeProof], entries: &Entries, term: &Core, ty: &Ty) -> bool
-    ensures { (d : Dialect) → (IsTrue result ↔ ByTypeRule TypeRule.Var None (entries_of entries.now) (term_of term.now) (typ_of ty.now) (typings_of premises.now) d) }
+    ensures { IsTrue result ↔ FitsRule TypeRule.Var None (entries_of entries.now) (term_of term.now) (typ_of ty.now) (types_concluded premises.now) }
 {
     if !premises.is_empty() {
         return false;
@@ -254,7 +276,7 @@ fn is_entry(index: usize, entries: &Entries, ty: &Ty) -> bool
         Entries::Given(outer) => is_given_entry(index, outer, ty),
         Entries::Under(inner, rest) => {
             if index == 0 {
-                return same(inner, ty);
+                return is_type(*inner, ty);
             }
             is_entry(index - 1, rest, ty)
         }
@@ -269,121 +291,93 @@ fn is_given_entry(index: usize, context: &[Option<Ty>], ty: &Ty) -> bool
         return false;
     }
     let entry = &context[context.len() - 1 - index];
+    is_type(entry.as_ref(), ty)
+}
+
+fn is_type(entry: Option<&Ty>, ty: &Ty) -> bool
+    ensures { IsTrue result ↔ (lent_of entry.entry ≡ Some (typ_of ty.now)) }
+{
     match entry {
-        Some(given) => same(given, ty),
+        Some(own) => same(own, ty),
         None => false,
     }
 }
 
 /// T-If.
-#[cycle(check_type)]
-fn by_if(premises: &[TypeProof], entries: &Entries, term: &Core, ty: &Ty, dialect: Dialect) -> bool
-    requires context { IsWellFormedContext (entries_of entries.now) }
-    requires ty { IsWellFormed (typ_of ty.now) }
-    ensures { IsTrue result ↔ ByTypeRule TypeRule.If None (entries_of entries.now) (term_of term.now) (typ_of ty.now) (typings_of premises.now) dialect }
+fn by_if(premises: &[TypeProof], term: &Core, ty: &Ty) -> bool
+    ensures { (g : Context) → (IsTrue result ↔ FitsRule TypeRule.If None g (term_of term.now) (typ_of ty.now) (types_concluded premises.now)) }
 {
-    let Core::If(parts) = term else {
+    let Core::If(_) = term else {
         return false;
     };
-    let (condition, then_term, else_term) = &**parts;
     let [first, second, third] = premises else {
         return false;
     };
-    if !proves(first, entries, condition, &Ty::Bool, dialect) {
+    if !same(&first.ty, &Ty::Bool) {
         return false;
     }
-    if !proves(second, entries, then_term, ty, dialect) {
+    if !same(&second.ty, ty) {
         return false;
     }
-    proves(third, entries, else_term, ty, dialect)
+    same(&third.ty, ty)
 }
 
 /// T-Succ.
-#[cycle(check_type)]
-fn by_succ(
-    premises: &[TypeProof],
-    entries: &Entries,
-    term: &Core,
-    ty: &Ty,
-    dialect: Dialect,
-) -> bool
-    requires context { IsWellFormedContext (entries_of entries.now) }
-    requires ty { IsWellFormed (typ_of ty.now) }
-    ensures { IsTrue result ↔ ByTypeRule TypeRule.Succ None (entries_of entries.now) (term_of term.now) (typ_of ty.now) (typings_of premises.now) dialect }
+fn by_succ(premises: &[TypeProof], term: &Core, ty: &Ty) -> bool
+    ensures { (g : Context) → (IsTrue result ↔ FitsRule TypeRule.Succ None g (term_of term.now) (typ_of ty.now) (types_concluded premises.now)) }
 {
-    let Core::Succ(operand) = term else {
+    let Core::Succ(_) = term else {
         return false;
     };
     let [premise] = premises else {
         return false;
     };
-    if !same(ty, &Ty::Nat) {
+    if !same(&premise.ty, &Ty::Nat) {
         return false;
     }
-    proves(premise, entries, operand, &Ty::Nat, dialect)
+    same(ty, &Ty::Nat)
 }
 
 /// T-Pred.
-#[cycle(check_type)]
-fn by_pred(
-    premises: &[TypeProof],
-    entries: &Entries,
-    term: &Core,
-    ty: &Ty,
-    dialect: Dialect,
-) -> bool
-    requires context { IsWellFormedContext (entries_of entries.now) }
-    requires ty { IsWellFormed (typ_of ty.now) }
-    ensures { IsTrue result ↔ ByTypeRule TypeRule.Pred None (entries_of entries.now) (term_of term.now) (typ_of ty.now) (typings_of premises.now) dialect }
+fn by_pred(premises: &[TypeProof], term: &Core, ty: &Ty) -> bool
+    ensures { (g : Context) → (IsTrue result ↔ FitsRule TypeRule.Pred None g (term_of term.now) (typ_of ty.now) (types_concluded premises.now)) }
 {
-    let Core::Pred(operand) = term else {
+    let Core::Pred(_) = term else {
         return false;
     };
     let [premise] = premises else {
         return false;
     };
-    if !same(ty, &Ty::Nat) {
+    if !same(&premise.ty, &Ty::Nat) {
         return false;
     }
-    proves(premise, entries, operand, &Ty::Nat, dialect)
+    same(ty, &Ty::Nat)
 }
 
 /// T-IsZero.
-#[cycle(check_type)]
-fn by_is_zero(
-    premises: &[TypeProof],
-    entries: &Entries,
-    term: &Core,
-    ty: &Ty,
-    dialect: Dialect,
-) -> bool
-    requires context { IsWellFormedContext (entries_of entries.now) }
-    requires ty { IsWellFormed (typ_of ty.now) }
-    ensures { IsTrue result ↔ ByTypeRule TypeRule.IsZero None (entries_of entries.now) (term_of term.now) (typ_of ty.now) (typings_of premises.now) dialect }
+fn by_is_zero(premises: &[TypeProof], term: &Core, ty: &Ty) -> bool
+    ensures { (g : Context) → (IsTrue result ↔ FitsRule TypeRule.IsZero None g (term_of term.now) (typ_of ty.now) (types_concluded premises.now)) }
 {
-    let Core::IsZero(operand) = term else {
+    let Core::IsZero(_) = term else {
         return false;
     };
     let [premise] = premises else {
         return false;
     };
-    if !same(ty, &Ty::Bool) {
+    if !same(&premise.ty, &Ty::Nat) {
         return false;
     }
-    proves(premise, entries, operand, &Ty::Nat, dialect)
+    same(ty, &Ty::Bool)
 }
 
-/// T-Abs. The body is checked under the binder.
-#[cycle(check_type)]
-fn by_abs(premises: &[TypeProof], entries: &Entries, term: &Core, ty: &Ty, dialect: Dialect) -> bool
-    requires context { IsWellFormedContext (entries_of entries.now) }
-    requires ty { IsWellFormed (typ_of ty.now) }
-    ensures { IsTrue result ↔ ByTypeRule TypeRule.Abs None (entries_of entries.now) (term_of term.now) (typ_of ty.now) (typings_of premises.now) dialect }
+/// T-Abs.
+fn by_abs(premises: &[TypeProof], term: &Core, ty: &Ty) -> bool
+    ensures { (g : Context) → (IsTrue result ↔ FitsRule TypeRule.Abs None g (term_of term.now) (typ_of ty.now) (types_concluded premises.now)) }
 {
     let Core::Abs(parts) = term else {
         return false;
     };
-    let (written, body) = &**parts;
+    let written = &parts.0;
     let Some(parameter) = written else {
         return false;
     };
@@ -396,29 +390,19 @@ fn by_abs(premises: &[TypeProof], entries: &Entries, term: &Core, ty: &Ty, diale
     if !same(from, parameter) {
         return false;
     }
-    proves_under(premise, parameter, entries, body, to, dialect)
+    same(to, &premise.ty)
 }
 
 /// T-App.
-#[cycle(check_type)]
-fn by_app(premises: &[TypeProof], entries: &Entries, term: &Core, ty: &Ty, dialect: Dialect) -> bool
-    requires context { IsWellFormedContext (entries_of entries.now) }
-    requires ty { IsWellFormed (typ_of ty.now) }
-    ensures { IsTrue result ↔ ByTypeRule TypeRule.App None (entries_of entries.now) (term_of term.now) (typ_of ty.now) (typings_of premises.now) dialect }
+fn by_app(premises: &[TypeProof], term: &Core, ty: &Ty) -> bool
+    ensures { (g : Context) → (IsTrue result ↔ FitsRule TypeRule.App None g (term_of term.now) (typ_of ty.now) (types_concluded premises.now)) }
 {
-    let Core::App(parts) = term else {
+    let Core::App(_) = term else {
         return false;
     };
-    let (function, argument) = &**parts;
     let [first, second] = premises else {
         return false;
     };
-    if !check_in(second, entries, argument, dialect) {
-        return false;
-    }
-    if !check_in(first, entries, function, dialect) {
-        return false;
-    }
     let Ty::Arrow(from, to) = &first.ty else {
         return false;
     };
@@ -429,60 +413,41 @@ fn by_app(premises: &[TypeProof], entries: &Entries, term: &Core, ty: &Ty, diale
 }
 
 /// T-Ascribe.
-#[cycle(check_type)]
-fn by_ascribe(
-    premises: &[TypeProof],
-    entries: &Entries,
-    term: &Core,
-    ty: &Ty,
-    dialect: Dialect,
-) -> bool
-    requires context { IsWellFormedContext (entries_of entries.now) }
-    requires ty { IsWellFormed (typ_of ty.now) }
-    ensures { IsTrue result ↔ ByTypeRule TypeRule.Ascribe None (entries_of entries.now) (term_of term.now) (typ_of ty.now) (typings_of premises.now) dialect }
+fn by_ascribe(premises: &[TypeProof], term: &Core, ty: &Ty) -> bool
+    ensures { (g : Context) → (IsTrue result ↔ FitsRule TypeRule.Ascribe None g (term_of term.now) (typ_of ty.now) (types_concluded premises.now)) }
 {
     let Core::Ascribe(parts) = term else {
         return false;
     };
-    let (operand, written) = &**parts;
+    let written = &parts.1;
     let Some(ascribed) = written else {
         return false;
     };
     let [premise] = premises else {
         return false;
     };
-    if !same(ty, ascribed) {
+    if !same(&premise.ty, ascribed) {
         return false;
     }
-    proves(premise, entries, operand, ascribed, dialect)
+    same(ty, ascribed)
 }
 
-/// T-Let. The body is checked under the binder.
-#[cycle(check_type)]
-fn by_let(premises: &[TypeProof], entries: &Entries, term: &Core, ty: &Ty, dialect: Dialect) -> bool
-    requires context { IsWellFormedContext (entries_of entries.now) }
-    requires ty { IsWellFormed (typ_of ty.now) }
-    ensures { IsTrue result ↔ ByTypeRule TypeRule.Let None (entries_of entries.now) (term_of term.now) (typ_of ty.now) (typings_of premises.now) dialect }
+/// T-Let.
+fn by_let(premises: &[TypeProof], term: &Core, ty: &Ty) -> bool
+    ensures { (g : Context) → (IsTrue result ↔ FitsRule TypeRule.Let None g (term_of term.now) (typ_of ty.now) (types_concluded premises.now)) }
 {
-    let Core::Let(parts) = term else {
+    let Core::Let(_) = term else {
         return false;
     };
-    let (bound, body) = &**parts;
-    let [first, second] = premises else {
+    let [_, second] = premises else {
         return false;
     };
-    if !check_in(first, entries, bound, dialect) {
-        return false;
-    }
-    proves_under(second, &first.ty, entries, body, ty, dialect)
+    same(&second.ty, ty)
 }
 
 /// T-Rcd.
-#[cycle(check_type)]
-fn by_rcd(premises: &[TypeProof], entries: &Entries, term: &Core, ty: &Ty, dialect: Dialect) -> bool
-    requires context { IsWellFormedContext (entries_of entries.now) }
-    requires ty { IsWellFormed (typ_of ty.now) }
-    ensures { IsTrue result ↔ ByTypeRule TypeRule.Rcd None (entries_of entries.now) (term_of term.now) (typ_of ty.now) (typings_of premises.now) dialect }
+fn by_rcd(premises: &[TypeProof], term: &Core, ty: &Ty) -> bool
+    ensures { (g : Context) → (IsTrue result ↔ FitsRule TypeRule.Rcd None g (term_of term.now) (typ_of ty.now) (types_concluded premises.now)) }
 {
     let Core::Record(terms) = term else {
         return false;
@@ -490,20 +455,12 @@ fn by_rcd(premises: &[TypeProof], entries: &Entries, term: &Core, ty: &Ty, diale
     let Ty::Record(fields) = ty else {
         return false;
     };
-    by_fields(premises, entries, terms, &fields.items, dialect)
+    by_fields(premises, terms, &fields.items)
 }
 
 /// T-Rcd, field by field.
-#[cycle(check_type)]
-fn by_fields(
-    premises: &[TypeProof],
-    entries: &Entries,
-    terms: &[(String, Core)],
-    fields: &[(String, Ty)],
-    dialect: Dialect,
-) -> bool
-    requires { IsWellFormedContext (entries_of entries.now) }
-    ensures { IsTrue result ↔ ByTypeRule TypeRule.Rcd None (entries_of entries.now) (record_term (terms_of terms.now)) (record_of (fields_of fields.now)) (typings_of premises.now) dialect }
+fn by_fields(premises: &[TypeProof], terms: &[(String, Core)], fields: &[(String, Ty)]) -> bool
+    ensures { (g : Context) → (IsTrue result ↔ FitsRule TypeRule.Rcd None g (record_term (terms_of terms.now)) (record_of (fields_of fields.now)) (types_concluded premises.now)) }
 {
     if terms.len() != fields.len() {
         return false;
@@ -518,7 +475,7 @@ fn by_fields(
         if term.0.as_str() != field.0.as_str() {
             return false;
         }
-        if !proves(premise, entries, &term.1, &field.1, dialect) {
+        if !same(&premise.ty, &field.1) {
             return false;
         }
     }
@@ -526,50 +483,31 @@ fn by_fields(
 }
 
 /// T-Proj.
-#[cycle(check_type)]
-fn by_proj(
-    premises: &[TypeProof],
-    entries: &Entries,
-    term: &Core,
-    ty: &Ty,
-    dialect: Dialect,
-) -> bool
-    requires context { IsWellFormedContext (entries_of entries.now) }
-    requires ty { IsWellFormed (typ_of ty.now) }
-    ensures { IsTrue result ↔ ByTypeRule TypeRule.Proj None (entries_of entries.now) (term_of term.now) (typ_of ty.now) (typings_of premises.now) dialect }
+fn by_proj(premises: &[TypeProof], term: &Core, ty: &Ty) -> bool
+    ensures { (g : Context) → (IsTrue result ↔ FitsRule TypeRule.Proj None g (term_of term.now) (typ_of ty.now) (types_concluded premises.now)) }
 {
     let Core::Proj(parts) = term else {
         return false;
     };
-    let (operand, label) = &**parts;
     let [premise] = premises else {
         return false;
     };
-    if !check_in(premise, entries, operand, dialect) {
-        return false;
-    }
     let Ty::Record(fields) = &premise.ty else {
         return false;
     };
-    has_field(label, ty, &fields.items)
+    has_field(&parts.1, ty, &fields.items)
 }
 
 /// T-Fix.
-#[cycle(check_type)]
-fn by_fix(premises: &[TypeProof], entries: &Entries, term: &Core, ty: &Ty, dialect: Dialect) -> bool
-    requires context { IsWellFormedContext (entries_of entries.now) }
-    requires ty { IsWellFormed (typ_of ty.now) }
-    ensures { IsTrue result ↔ ByTypeRule TypeRule.Fix None (entries_of entries.now) (term_of term.now) (typ_of ty.now) (typings_of premises.now) dialect }
+fn by_fix(premises: &[TypeProof], term: &Core, ty: &Ty) -> bool
+    ensures { (g : Context) → (IsTrue result ↔ FitsRule TypeRule.Fix None g (term_of term.now) (typ_of ty.now) (types_concluded premises.now)) }
 {
-    let Core::Fix(operand) = term else {
+    let Core::Fix(_) = term else {
         return false;
     };
     let [premise] = premises else {
         return false;
     };
-    if !check_in(premise, entries, operand, dialect) {
-        return false;
-    }
     let Ty::Arrow(from, to) = &premise.ty else {
         return false;
     };

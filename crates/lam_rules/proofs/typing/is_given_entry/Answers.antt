@@ -5,8 +5,5 @@ use Rattle.lam_rules.proofs.typing.is_given_entry.Goals as goal
 pub returns-then-context-index : goal.returns-then-context-index
 returns-then-context-index c = grind (arith, contexts)
 
-pub returns-in-Some : goal.returns-in-Some
-returns-in-Some c = grind (arith, contexts)
-
-pub returns-in-None : goal.returns-in-None
-returns-in-None c = grind (arith, contexts)
+pub returns : goal.returns
+returns c = grind (arith, contexts)

@@ -6,10 +6,10 @@ pub loop-entry-preserved : goal.loop-entry-preserved
 loop-entry-preserved c =
     let step = wf_drop c.args.context.now c.loop-entry.entry-index c.entry-item.result c.loop-entry-test.true c.entry-item.is in (
       λ all. (step.0 (c.loop-entry.invariant.0 all)).1,
-      λ rest. c.loop-entry.invariant.1 (step.1 (c.if-not-wf_entry.ensures.0 refl, rest)),
+      λ rest. c.loop-entry.invariant.1 (step.1 (rw c.as_ref.ensures.value at c.if-not-wf_entry.ensures.0 refl, rest)),
     )
 
 pub returns-then-not-wf_entry : goal.returns-then-not-wf_entry
 returns-then-not-wf_entry c =
     let step = wf_drop c.args.context.now c.loop-entry.entry-index c.entry-item.result c.loop-entry-test.true c.entry-item.is in
-    (λ no. cc, λ all. c.if-not-wf_entry.ensures.1 (step.0 (c.loop-entry.invariant.0 all)).0)
+    (λ no. cc, λ all. (rw c.as_ref.ensures.value at c.if-not-wf_entry.ensures).1 (step.0 (c.loop-entry.invariant.0 all)).0)

@@ -1,0 +1,21 @@
+use Rattle.std.proofs.Common.{arith}
+use Rattle.lam_rules.proofs.RuleForms.{no_fix, counts_fix, fix_rule}
+use Rattle.lam_rules.proofs.typing.by_fix.Goals as goal
+
+pub returns-in_default : goal.returns-in_default
+returns-in_default c = grind (arith, no_fix)
+
+pub returns-in_default-premises : goal.returns-in_default-premises
+returns-in_default-premises c = grind (arith, counts_fix)
+
+pub returns-in_default-premises-2 : goal.returns-in_default-premises-2
+returns-in_default-premises-2 c = grind (arith, counts_fix)
+
+pub returns-in_default-ty : goal.returns-in_default-ty
+returns-in_default-ty c = grind (arith, fix_rule)
+
+pub returns-then-not-same : goal.returns-then-not-same
+returns-then-not-same c = grind (arith, fix_rule)
+
+pub returns : goal.returns
+returns c = grind (arith, fix_rule)
