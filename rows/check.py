@@ -291,6 +291,14 @@ def wider(last, other):
     return derived(text, step("T-Num", len(text) - 1, len(text), "Nat"), y=arrows(1000, last), x=arrows(1000, other))
 
 
+def lifted(count, rule, start):
+    """A derivation of `succ 0` that is lifted so many times to its own type, with a first step of this rule and from this column on."""
+    steps = [step(rule, start, 6, "Nat"), step("T-Succ", 0, 6, "Nat", 0)]
+    for last in range(1, 2 * count, 2):
+        steps += below("S-Refl", "Nat", "Nat"), step("T-Sub", 0, 6, "Nat", last, last + 1)
+    return derived("succ 0", *steps)
+
+
 def function_of(ty):
     """A derivation that a function of anything is one of this type."""
     return derived(
@@ -485,6 +493,9 @@ CASES = [
         "d: accepted: lambda x:Top. 0 : {a\ufffd\ufffd[2Jb:Nat}->Nat\n",
         0,
     ),
+    Case("steps on twenty thousand levels", ["--verify", "d"], lifted(20_000, "T-Num", 5), "d: accepted: succ 0 : Nat\n", 0),
+    Case("a wrong step below twenty thousand others", ["--verify", "d"], lifted(20_000, "T-Var", 5), "d: " + BELOW.format(0) + "\n", 1),
+    Case("a wrong range below twenty thousand others", ["--verify", "d"], lifted(20_000, "T-Num", 0), "d: step 0 has the range of another term\n", 1),
     Case("a type with a depth of 4,096", ["--verify", "d"], function_of(nested(4095)), f"d: accepted: lambda x:Top. 0 : {nested(4095)}->Nat\n", 0),
     Case("a type with a depth of 4,097", ["--verify", "d"], function_of(nested(4096)), "d: step 4 has an unreadable type, or one of over 4,096 levels\n", 1),
     Case(

@@ -14,7 +14,8 @@ use Rattle.lam_query.specs.Views.{StepStandsIn, step_of}
 use Rattle.lam_query.specs.declared.answers.Step.{Step as RustStep}
 use Rattle.lam_query.specs.declared.answers.Step.TheVariants as rust
 use Rattle.lam_session.specs.Derivations.{derivation_value}
-use Rattle.lam_query.specs.FirstFaults.{IsFirstFault, IsSound}
+use Rattle.lam_query.specs.FirstFaults.{IsFirstFault}
+use Rattle.lam_query.specs.Verified.{IsVerified}
 use Rattle.lam_check.specs.Readable.{IsReadable, IsReadableConclusion}
 use Rattle.lam_check.specs.Verdicts.{accepted_line, refused_line, message, unread_text, IsVerdict, accepts, refuses, reads_none}
 use Rattle.lam_check.specs.Unreadable.{IsWrongFor}
@@ -46,10 +47,10 @@ module _ (text : List ℕ) (value : Data) (d : Dialect) where
   IsProof = (sent : IsVerifiedValue text value d) × IsReadable text sent.derivation
 
   -- if a readable derivation of the value is not verified, none is: the value has no other one
-  pub no_proof : (x : Derivation) → IsUtf8 text → value ≡ derivation_value Utf16 text (Some x) → IsReadable text x → (IsSound text x d → ⊥) → IsProof → ⊥
-  no_proof x utf8 is readable not_sound proof =
+  pub no_proof : (x : Derivation) → IsUtf8 text → value ≡ derivation_value Utf16 text (Some x) → IsReadable text x → (IsVerified text x d → ⊥) → IsProof → ⊥
+  no_proof x utf8 is readable not_verified proof =
       let same = one_readable Utf16 text utf8 proof.0.derivation x proof.1 readable (sym proof.0.is_value ∙ is) in
-      not_sound (subst (λ y. IsSound text y d) same (proof.0.verified, proof.0.not_deep))
+      not_verified (subst (λ y. IsVerified text y d) same proof.0.verified)
 
   pub none_counted : (r : Result Checked AllocError) → IsProof → IfOk r (λ v. v.count ≡ 0) → IfOk r (λ v. (v.count ≡ 0) ↔ IsProof)
   none_counted (Ok v) proof none = ((λ e. proof), (λ p. none))
@@ -67,11 +68,11 @@ module _ (name : Text) (text : List ℕ) (value : Data) (d : Dialect) where
   accepted_report (Ok v) proof none shown = subst (IsVerdict name text value d (string_bytes v.report)) (sym none) (accepts (record { sent = proof.0; readable = proof.1; shown = shown }))
   accepted_report (Err e) proof none shown = tt
 
-  pub refused_report : (r : Result Checked AllocError) (x : Derivation) → value ≡ derivation_value Utf16 text (Some x) → IsReadable text x → (IsSound text x d → ⊥) → (fault : FirstFault) → IsFirstFault text x d fault
+  pub refused_report : (r : Result Checked AllocError) (x : Derivation) → value ≡ derivation_value Utf16 text (Some x) → IsReadable text x → (IsVerified text x d → ⊥) → (fault : FirstFault) → IsFirstFault text x d fault
       → IfOk r (λ v. v.count ≡ 1) → IfOk r (λ v. string_bytes v.report ≡ refused_line name (message fault)) → IfOk r IsReport
-  refused_report (Ok v) x is readable not_sound fault first one shown =
-      subst (IsVerdict name text value d (string_bytes v.report)) (sym one) (refuses (record { derivation = x; is_value = is; readable = readable; not_sound = not_sound; fault = fault; first = first; shown = shown }))
-  refused_report (Err e) x is readable not_sound fault first one shown = tt
+  refused_report (Ok v) x is readable not_verified fault first one shown =
+      subst (IsVerdict name text value d (string_bytes v.report)) (sym one) (refuses (record { derivation = x; is_value = is; readable = readable; not_verified = not_verified; fault = fault; first = first; shown = shown }))
+  refused_report (Err e) x is readable not_verified fault first one shown = tt
 
   pub unread_report : (r : Result Checked AllocError) (reason : Unread) → IsWrongFor Utf16 text value reason → IfOk r (λ v. v.count ≡ 1)
       → IfOk r (λ v. string_bytes v.report ≡ refused_line name (unread_text reason)) → IfOk r IsReport

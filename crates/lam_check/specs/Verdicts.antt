@@ -10,7 +10,8 @@ use Rattle.lam_query.specs.Derivations.{ContextEntry, Derivation}
 use Rattle.lam_query.specs.Steps.{Conclusion}
 use Rattle.lam_session.specs.Derivations.{derivation_value}
 use Rattle.lam_check.specs.Drawings.{claim_text, line}
-use Rattle.lam_query.specs.FirstFaults.{IsFirstFault, IsSound, last_conclusion}
+use Rattle.lam_query.specs.FirstFaults.{IsFirstFault, last_conclusion}
+use Rattle.lam_query.specs.Verified.{IsVerified}
 use Rattle.lam_check.specs.Lines.{shown_line}
 use Rattle.lam_check.specs.Readable.{IsReadable}
 use Rattle.lam_check.specs.Unreadable.{IsWrongFor}
@@ -67,7 +68,6 @@ accepted_line name text x = line (shown_line name ++ codes ": accepted: " ++ sho
 -- the message of a fault
 unfoldable pub message : FirstFault → Text
 message faults.NoStep = codes "it has no step"
-message faults.TooDeep = codes "its steps follow from each other on more than 16,384 levels"
 message (faults.Premises n) = codes "the premises of step " ++ decimal n ++ codes " are not the last steps of the proofs directly before it"
 message (faults.Loose n) = codes "the steps do not make one proof of typing that ends in step " ++ decimal n
 message faults.TooLarge = codes "the text has a type of more than 4,096 nodes"
@@ -101,12 +101,12 @@ pub record IsAccepted (name : Text) (text : List ℕ) (value : Data) (d : Dialec
   pub readable : IsReadable text sent.derivation
   pub shown : report ≡ accepted_line name text sent.derivation
 
--- The value is that of a readable derivation that is not verified or has too many levels, and the line has the message of what is wrong with it first.
+-- The value is that of a readable derivation that is not verified, and the line has the message of what is wrong with it first.
 pub record IsRefused (name : Text) (text : List ℕ) (value : Data) (d : Dialect) (report : Text) : Type 0 where
   pub derivation : Derivation
   pub is_value : value ≡ derivation_value Utf16 text (Some derivation)
   pub readable : IsReadable text derivation
-  pub not_sound : IsSound text derivation d → ⊥
+  pub not_verified : IsVerified text derivation d → ⊥
   pub fault : FirstFault
   pub first : IsFirstFault text derivation d fault
   pub shown : report ≡ refused_line name (message fault)

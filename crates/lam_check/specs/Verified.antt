@@ -4,13 +4,11 @@ use Rattle.serde_json.specs.Data.{Data}
 use Rattle.lam_rules.specs.declared.rules.Dialect.{Dialect}
 use Rattle.lam_text.specs.declared.units.Encoding.TheVariants.{Utf16}
 use Rattle.lam_query.specs.Derivations.{Derivation}
-use Rattle.lam_query.specs.Levels.{AreTooDeep}
 use Rattle.lam_query.specs.Verified.{IsVerified}
 use Rattle.lam_session.specs.Derivations.{derivation_value}
 
--- The value is a derivation in the form that the language server sends, it is about a term of the text, and its steps follow from each other on at most 16,384 levels.
+-- The value is a derivation in the form that the language server sends, and it is about a term of the text.
 pub record IsVerifiedValue (text : List ℕ) (value : Data) (d : Dialect) : Type 0 where
   pub derivation : Derivation
   pub is_value : value ≡ derivation_value Utf16 text (Some derivation)
   pub verified : IsVerified text derivation d
-  pub not_deep : ¬ (AreTooDeep derivation.steps)

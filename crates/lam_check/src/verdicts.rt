@@ -112,9 +112,6 @@ fn message_of(alloc: Global, fault: FirstFault) -> Result<String, AllocError>
     let mut out = String::new(alloc);
     match fault {
         FirstFault::NoStep => out.push_str("it has no step")?,
-        FirstFault::TooDeep => {
-            out.push_str("its steps follow from each other on more than 16,384 levels")?;
-        }
         FirstFault::Premises(step) => {
             write!(
                 out,

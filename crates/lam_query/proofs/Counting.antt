@@ -7,17 +7,14 @@ use Rattle.lam_rules.specs.TypingViews.{typings_made}
 use Rattle.lam_query.specs.ProofTrees.{Tree, of_typing, of_subtyping, Premises, typing_premises, sub_premises, tree_from, tree_in, trees_in, if_typing}
 use Rattle.lam_query.specs.Steps.{Conclusion, typing, subtyping, Step, Proof, concludes, Proofs, no_proofs, proof_first, steps_before, number_of_steps}
 use Rattle.lam_query.proofs.Flat.{length_of_steps}
-use Rattle.lam_query.proofs.RebuiltTrees.{then_found, map_found}
+use Rattle.lam_query.proofs.JoinedProofs.{then_found, map_found}
 use Rattle.lam_query.specs.FirstFaults.{MakeTree}
-use Rattle.lam_query.specs.Judgements.{steps_in, steps_in_each, side_steps_in, sub_steps_in, sub_steps_in_each}
+use Rattle.lam_query.specs.Judgements.{steps_in, steps_in_each, side_steps_in, sub_steps_in_each}
+use Rattle.lam_query.specs.inner.Walking.{size}
 
 -- the number of nodes
 
-abbrev size : Tree → ℕ
-size (of_typing p) = steps_in p
-size (of_subtyping q) = sub_steps_in q
-
-abbrev sizes : List Tree → ℕ
+abbrev pub sizes : List Tree → ℕ
 sizes [] = 0
 sizes (t ∷ ts) = size t + sizes ts
 
@@ -47,7 +44,7 @@ sub_sizes (of_subtyping q ∷ ts) qs e =
     omega arith
 sub_sizes (of_typing p ∷ ts) qs e = let clash : None ≡ Some qs = e in absurd cc
 
-node_size : (c : Conclusion) (ts : List Tree) (t : Tree) → tree_from c ts ≡ Some t → size t ≡ sizes ts + 1
+pub node_size : (c : Conclusion) (ts : List Tree) (t : Tree) → tree_from c ts ≡ Some t → size t ≡ sizes ts + 1
 node_size (typing rule s type) ts t e =
     let found = map_found _ (typing_premises ts) t e in
     let parts = typing_sizes ts found.0 found.1 in
@@ -60,14 +57,14 @@ node_size (subtyping rule lower upper) ts t e =
     omega arith
 
 mutual
-  proof_size : (p : Proof) (t : Tree) → tree_in p ≡ Some t → steps_before p + 1 ≡ size t
+  pub proof_size : (p : Proof) (t : Tree) → tree_in p ≡ Some t → steps_before p + 1 ≡ size t
   proof_size (concludes c ps) t e =
       let found = then_found (tree_from c) (trees_in ps) t e in
       let rest = proofs_size ps found.0 found.1 in
       let own = node_size c found.0 t found.2 in
       omega arith
 
-  proofs_size : (ps : Proofs) (ts : List Tree) → trees_in ps ≡ Some ts → number_of_steps ps ≡ sizes ts
+  pub proofs_size : (ps : Proofs) (ts : List Tree) → trees_in ps ≡ Some ts → number_of_steps ps ≡ sizes ts
   proofs_size no_proofs ts e = let same : Some [] ≡ Some ts = e in let is : [] ≡ ts = cc in ap sizes is
   proofs_size (proof_first p ps) ts e =
       let first = then_found (λ tree. option_map (λ trees. tree ∷ trees) (trees_in ps)) (tree_in p) ts e in

@@ -1,15 +1,24 @@
 -- Steps whose premises are the last steps of the proofs directly before them.
-use Rattle.std.proofs.Common.{◌≡◌, ℕ, zero, suc, ◌+◌, ◌-◌, ◌<◌, List, [], ◌∷◌, ◌++◌, length, get_or, map, take, drop, Option, Some, None, option_map, true, false, refl, sym, ap, subst, ◌∙◌, arith, append_assoc, append-nil, length-append, if◌then◌else◌}
-use Rattle.std.specs.Option.{option_and_then}
+use Rattle.std.proofs.Common.{◌≡◌, ℕ, zero, suc, ◌+◌, ◌-◌, ◌<◌, List, [], ◌∷◌, ◌++◌, length, get_or, map, take, drop, Option, Some, None, option_map, Bool, IsTrue, Bor, slice_get, ◌↔◌, ◌≤◌, true, false, refl, sym, ap, subst, ◌∙◌, arith, append_assoc, append-nil, length-append, if◌then◌else◌}
+use Rattle.std.specs.Option.{option_and_then, option_copied}
 use Rattle.std.specs.Str.{bytes_eq}
 use Rattle.std.proofs.lemmas.List.{take_at, drop_at, take_more, take_all, take-append-drop, length-map, length-take-le, get_or-map}
 use Rattle.std.proofs.lemmas.Slice.Eq.{bytes_eq-Decides}
-use Rattle.lam_query.specs.Steps.{Step, Proof, concludes, Proofs, no_proofs, proof_first, steps_before, number_of_steps, last_steps, steps_of, steps_of_each}
+use Rattle.lam_query.specs.Steps.{Conclusion, typing, subtyping, Step, Proof, concludes, Proofs, no_proofs, proof_first, steps_before, number_of_steps, last_steps, steps_of, steps_of_each}
 use Rattle.lam_query.specs.Views.{step_of}
 use Rattle.lam_query.specs.declared.answers.Step.{Step as RustStep}
 use Rattle.lam_query.proofs.Flat.{length_of_steps, length_of_steps_of_each}
-use Rattle.lam_query.proofs.RebuiltTrees.{joined, steps_joined, number_joined}
-use Rattle.lam_query.specs.FirstFaults.{AreOfProofs, IsFirstMisplaced}
+use Rattle.lam_query.proofs.JoinedProofs.{then_found, joined, steps_joined, number_joined}
+use Rattle.lam_query.specs.ProofTrees.{Tree, of_typing, of_subtyping, if_typing, tree_in, trees_in}
+use Rattle.std.proofs.lemmas.Option.{same_Some}
+use Rattle.lam_rules.specs.Typing.{TypingTree}
+use Rattle.lam_query.proofs.OneProof.{one_proof_of_steps}
+use Rattle.lam_query.proofs.StepByStep.{conclusion_of, conclusions_of, said_last, Alike, tree_alike}
+use Rattle.lam_query.proofs.TreesMade.{HaveTrees, one_more_tree, one_tree_less}
+use Rattle.lam_query.specs.inner.Placing.{IsTypingSaid, MayHave}
+use Rattle.lam_query.specs.inner.Walking.{said_at, said_by}
+use Rattle.lam_query.proofs.PendingProofs.{said_got}
+use Rattle.lam_query.specs.FirstFaults.{AreOfOneProof, AreOfProofs, IsFirstMisplaced, MakeTree, last_conclusion}
 
 -- ---- proofs one after another
 
@@ -104,17 +113,19 @@ then_rest n (t ∷ steps) more lasts =
 
 -- ---- the code
 
--- the steps so far are of proofs with these last steps
-pub record AreSoFar (steps : List Step) (lasts : List ℕ) : Type 0 where
+-- The steps so far are of proofs with these last steps, and it is known whether each has a tree.
+pub record AreSoFar (steps : List Step) (lasts : List ℕ) (have_trees : Bool) : Type 0 where
   pub proofs : Proofs
   pub are : steps ≡ steps_of_each 0 proofs
   pub lasts_are : lasts ≡ last_steps 0 proofs
+  pub trees : IsTrue have_trees ↔ HaveTrees proofs
 
-pub none_yet : AreSoFar [] []
-none_yet = record { proofs = no_proofs; are = refl; lasts_are = refl }
+pub none_yet : AreSoFar [] [] true
+none_yet = record { proofs = no_proofs; are = refl; lasts_are = refl; trees = ((λ t. ([], refl)), (λ h. refl)) }
 
-one_further : (steps : List Step) (s : Step) (front : List ℕ) → AreSoFar steps (front ++ s.premises) → AreSoFar (steps ++ s ∷ []) (front ++ length steps ∷ [])
-one_further steps s front h =
+one_further : (all steps : List Step) (s : Step) (rest : List Step) (front : List ℕ) (have next : Bool) → all ≡ steps ++ s ∷ rest
+    → (IsTrue next ↔ (MayHave s.conclusion (map (said_at all) s.premises) × IsTrue have)) → AreSoFar steps (front ++ s.premises) have → AreSoFar (steps ++ s ∷ []) (front ++ length steps ∷ []) next
+one_further all steps s rest front have next whole fits h =
     let parts = apart 0 front s.premises h.proofs (sym h.lasts_are) in
     let m = 0 + number_of_steps parts.first in
     let own = concludes s.conclusion parts.rest in
@@ -124,6 +135,13 @@ one_further steps s front h =
     let size : length steps ≡ length (steps_of_each 0 (joined parts.first parts.rest)) = ap length (h.are ∙ ap (steps_of_each 0) parts.whole) in
     let last : length steps ≡ m + number_of_steps parts.rest = omega arith in
     let step : record { conclusion = s.conclusion; premises = last_steps m parts.rest } ≡ s = (λ i. record { conclusion = s.conclusion; premises = parts.are_top i }) in
+    let list : all ≡ steps_of_each 0 parts.first ++ (steps_of_each m parts.rest ++ s ∷ rest) =
+    whole ∙ ap (λ ss. ss ++ s ∷ rest) before ∙ append_assoc (steps_of_each 0 parts.first) (steps_of_each m parts.rest) (s ∷ rest) in
+    let front_size = length_of_steps_of_each 0 parts.first in
+    let said : map (said_at all) s.premises ≡ map Some (conclusions_of parts.rest) =
+    ap (map (said_at all)) (sym parts.are_top)
+    ∙ ap (λ ss. map (said_at ss) (last_steps m parts.rest)) list
+    ∙ said_last (steps_of_each 0 parts.first) parts.rest (s ∷ rest) m (omega arith) in
     record {
       proofs = joined parts.first (proof_first own no_proofs);
       are =
@@ -133,11 +151,19 @@ one_further steps s front h =
           ∙ ap (λ ss. steps_of_each 0 parts.first ++ ss) (sym (append-nil (steps_of m own)))
           ∙ sym (steps_joined 0 parts.first (proof_first own no_proofs));
       lasts_are = (λ i. sym parts.are_front i ++ last i ∷ []) ∙ sym (lasts_joined 0 parts.first (proof_first own no_proofs));
+      trees = (
+        (λ t. (
+            let both = fits.0 t in
+            one_more_tree parts.first parts.rest s.conclusion (subst (MayHave s.conclusion) said both.0) (subst HaveTrees parts.whole (h.trees.0 both.1)))),
+        (λ k. (
+            let less = one_tree_less parts.first parts.rest s.conclusion k in
+            fits.1 (subst (MayHave s.conclusion) (sym said) less.0, h.trees.1 (subst HaveTrees (sym parts.whole) less.1)))),
+      );
     }
 
-not_further : {A : Type 0} (steps : List Step) (s : Step) (rest : List Step) (lasts : List ℕ) → AreSoFar steps lasts → bytes_eq s.premises (drop (length lasts - length s.premises) lasts) ≡ false
+not_further : {A : Type 0} (steps : List Step) (s : Step) (rest : List Step) (lasts : List ℕ) (have : Bool) → AreSoFar steps lasts have → bytes_eq s.premises (drop (length lasts - length s.premises) lasts) ≡ false
     → AreOfProofs (steps ++ s ∷ rest) → A
-not_further steps s rest lasts h other all =
+not_further steps s rest lasts have h other all =
     let so_far : after_all 0 steps [] ≡ Some lasts = ap (λ ss. after_all 0 ss []) h.are ∙ of_all h.proofs ∙ ap (λ l. Some l) (sym h.lasts_are) in
     let none : after_one (length steps) s lasts ≡ None = rw other refl in
     let none_more : 0 + length steps ≡ length steps = omega arith in
@@ -170,26 +196,33 @@ longer_front (s ∷ steps) (suc i) (suc n) x inside more is =
 size_so_far : (steps : List RustStep) (i : ℕ) → i < length steps → length (take i (map step_of steps)) ≡ i
 size_so_far steps i inside = length-take-le i (map step_of steps) (let long = length-map steps step_of in omega arith)
 
-pub is_misplaced : (steps : List RustStep) (i : ℕ) (x : RustStep) (lasts premises : List ℕ) → i < length steps → x ≡ get_or steps i x → premises ≡ (step_of x).premises
-    → AreSoFar (take i (map step_of steps)) lasts → bytes_eq premises (drop (length lasts - length premises) lasts) ≡ false → IsFirstMisplaced (map step_of steps) i
-is_misplaced steps i x lasts premises inside is are h other = record {
+pub is_misplaced : (steps : List RustStep) (i : ℕ) (x : RustStep) (lasts premises : List ℕ) (have : Bool) → i < length steps → x ≡ get_or steps i x → premises ≡ (step_of x).premises
+    → AreSoFar (take i (map step_of steps)) lasts have → bytes_eq premises (drop (length lasts - length premises) lasts) ≡ false → IsFirstMisplaced (map step_of steps) i
+is_misplaced steps i x lasts premises have inside is are h other = record {
   inside = (let long = length-map steps step_of in omega arith);
   before = record { proofs = h.proofs; are = h.are };
   not_with_it = λ n more all.
       let front = longer_front steps i n x inside more is in
-      not_further (take i (map step_of steps)) (step_of x) front.0 lasts h (ap (λ ps. bytes_eq ps (drop (length lasts - length ps) lasts)) (sym are) ∙ other) (subst AreOfProofs front.1 all);
+      not_further (take i (map step_of steps)) (step_of x) front.0 lasts have h (ap (λ ps. bytes_eq ps (drop (length lasts - length ps) lasts)) (sym are) ∙ other) (subst AreOfProofs front.1 all);
 }
 
-pub is_placed : (steps : List RustStep) (i : ℕ) (x : RustStep) (lasts now premises : List ℕ) → i < length steps → x ≡ get_or steps i x → premises ≡ (step_of x).premises
-    → AreSoFar (take i (map step_of steps)) lasts → bytes_eq premises (drop (length lasts - length premises) lasts) ≡ true
-    → now ≡ take (length lasts - length premises) lasts ++ i ∷ [] → AreSoFar (take (i + 1) (map step_of steps)) now
-is_placed steps i x lasts now premises inside is are h same pushed =
+pub is_placed : (steps : List RustStep) (i : ℕ) (x : RustStep) (lasts now premises : List ℕ) (have next : Bool) → i < length steps → x ≡ get_or steps i x → premises ≡ (step_of x).premises
+    → (IsTrue next ↔ (MayHave (step_of x).conclusion (map (said_at (map step_of steps)) premises) × IsTrue have))
+    → AreSoFar (take i (map step_of steps)) lasts have → bytes_eq premises (drop (length lasts - length premises) lasts) ≡ true
+    → now ≡ take (length lasts - length premises) lasts ++ i ∷ [] → AreSoFar (take (i + 1) (map step_of steps)) now next
+is_placed steps i x lasts now premises have next inside is are fits h same pushed =
     let front = take (length lasts - length premises) lasts in
     let top : premises ≡ drop (length lasts - length premises) lasts = (bytes_eq-Decides premises (drop (length lasts - length premises) lasts)).0 same in
     let whole : lasts ≡ front ++ (step_of x).premises = sym (take-append-drop (length lasts - length premises) lasts) ∙ ap (λ l. front ++ l) (sym top ∙ are) in
-    let further = one_further (take i (map step_of steps)) (step_of x) front (subst (AreSoFar (take i (map step_of steps))) whole h) in
-    subst (AreSoFar (take (i + 1) (map step_of steps))) (sym (pushed ∙ ap (λ n. front ++ n ∷ []) (sym (size_so_far steps i inside))))
-    (subst (λ ss. AreSoFar ss (front ++ length (take i (map step_of steps)) ∷ [])) (sym (more_steps steps i x inside is)) further)
+    let all = map step_of steps in
+    let more = more_steps steps i x inside is in
+    let list : all ≡ take i all ++ step_of x ∷ drop (i + 1) all =
+    sym (take-append-drop (i + 1) all) ∙ ap (λ ss. ss ++ drop (i + 1) all) more ∙ append_assoc (take i all) (step_of x ∷ []) (drop (i + 1) all) in
+    let further =
+    one_further all (take i all) (step_of x) (drop (i + 1) all) front have next list
+    (subst (λ ps. IsTrue next ↔ (MayHave (step_of x).conclusion (map (said_at all) ps) × IsTrue have)) are fits) (subst (λ l. AreSoFar (take i all) l have) whole h) in
+    subst (λ l. AreSoFar (take (i + 1) all) l next) (sym (pushed ∙ ap (λ n. front ++ n ∷ []) (sym (size_so_far steps i inside))))
+    (subst (λ ss. AreSoFar ss (front ++ length (take i all) ∷ []) next) (sym more) further)
 
 -- ---- whole lists
 
@@ -204,3 +237,78 @@ one_is_placed steps p number is h =
 
 pub never_empty : {A : Type 0} (steps : List Step) (p : Proof) → steps ≡ steps_of 0 p → length steps ≡ 0 → A
 never_empty steps p is none = let long = length_of_steps 0 p in let same = ap length is in absurd (omega arith)
+
+-- ---- whether they are of one proof of typing
+
+one_alone : (ps : Proofs) → length (last_steps 0 ps) ≡ 1 → (p : Proof) × (ps ≡ proof_first p no_proofs)
+one_alone no_proofs is = absurd (omega arith)
+one_alone (proof_first p no_proofs) is = (p, refl)
+one_alone (proof_first p (proof_first q ps)) is = absurd (omega arith)
+
+-- steps of one proof have one last step
+one_last : (steps : List Step) (tree : TypingTree) (proofs : Proofs) → steps ≡ steps_of_each 0 proofs → MakeTree steps tree → length (last_steps 0 proofs) ≡ 1
+one_last steps tree proofs are h =
+    let all : steps_of_each 0 proofs ≡ steps_of_each 0 (proof_first h.whole no_proofs) = sym are ∙ h.are_steps ∙ sym (append-nil (steps_of 0 h.whole)) in
+    let same : Some (last_steps 0 proofs) ≡ Some (last_steps 0 (proof_first h.whole no_proofs)) =
+    sym (of_all proofs) ∙ ap (λ ss. after_all 0 ss []) all ∙ of_all (proof_first h.whole no_proofs) in
+    ap length (same_Some (last_steps 0 proofs) (last_steps 0 (proof_first h.whole no_proofs)) same)
+
+last_said : (n : ℕ) (p : Proof) → last_conclusion (steps_of n p) ≡ Some (conclusion_of p)
+last_said n (concludes c ps) = last_pushed (steps_of_each n ps) (record { conclusion = c; premises = last_steps n ps })
+  where
+    last_pushed : (steps : List Step) (s : Step) → last_conclusion (steps ++ s ∷ []) ≡ Some s.conclusion
+    last_pushed [] s = refl
+    last_pushed (t ∷ []) s = refl
+    last_pushed (t ∷ u ∷ steps) s = last_pushed (u ∷ steps) s
+
+typing_tree : (c : Conclusion) (t : Tree) → Alike c t → IsTypingSaid (Some c) → (tree : TypingTree) × (if_typing t ≡ Some tree)
+typing_tree (typing r s ty) (of_typing p) h is = (p, refl)
+typing_tree (typing r s ty) (of_subtyping q) h is = absurd h
+typing_tree (subtyping r l u) t h is = absurd is
+
+typing_said : (c : Conclusion) (t : Tree) (tree : TypingTree) → Alike c t → if_typing t ≡ Some tree → IsTypingSaid (Some c)
+typing_said (typing r s ty) t tree h is = tt
+typing_said (subtyping r l u) (of_typing p) tree h is = absurd h
+typing_said (subtyping r l u) (of_subtyping q) tree h is = let clash : None ≡ Some tree = is in absurd cc
+
+pub of_one_typing : (steps : List Step) (lasts : List ℕ) (have : Bool) → AreSoFar steps lasts have → length lasts ≡ 1 → IsTrue have → IsTypingSaid (last_conclusion steps) → AreOfOneProof steps
+of_one_typing steps lasts have h one t typing_last =
+    let alone = one_alone h.proofs (sym (ap length h.lasts_are) ∙ one) in
+    let p = alone.0 in
+    let are : steps ≡ steps_of 0 p = h.are ∙ ap (steps_of_each 0) alone.1 ∙ append-nil (steps_of 0 p) in
+    let trees = h.trees.0 t in
+    let first = then_found (λ tree. option_map (λ trees. tree ∷ trees) (trees_in no_proofs)) (tree_in p) trees.0 (ap trees_in (sym alone.1) ∙ trees.1) in
+    let own = typing_tree (conclusion_of p) first.0 (tree_alike p first.0 first.1) (subst IsTypingSaid (ap last_conclusion are ∙ last_said 0 p) typing_last) in
+    record { tree = own.0; make = record { whole = p; are_steps = are; is_tree = ap (option_and_then if_typing) first.1 ∙ own.1 } }
+
+-- if they are, all of it is so
+pub all_so : (steps : List Step) (lasts : List ℕ) (have : Bool) (tree : TypingTree) → AreSoFar steps lasts have → MakeTree steps tree
+    → (length lasts ≡ 1) × IsTrue have × IsTypingSaid (last_conclusion steps)
+all_so steps lasts have tree h made =
+    let one = one_last steps tree h.proofs h.are made in
+    let alone = one_alone h.proofs one in
+    let are : steps ≡ steps_of 0 alone.0 = h.are ∙ ap (steps_of_each 0) alone.1 ∙ append-nil (steps_of 0 alone.0) in
+    let whole : made.whole ≡ alone.0 = one_proof_of_steps made.whole alone.0 (sym made.are_steps ∙ are) in
+    let found = then_found if_typing (tree_in made.whole) tree made.is_tree in
+    let trees : trees_in h.proofs ≡ Some (found.0 ∷ []) =
+    ap trees_in alone.1 ∙ ap (λ p. option_and_then (λ t. Some (t ∷ [])) (tree_in p)) (sym whole) ∙ ap (option_and_then (λ t. Some (t ∷ []))) found.1 in (
+      ap length h.lasts_are ∙ one,
+      h.trees.1 (found.0 ∷ [], trees),
+      subst IsTypingSaid (sym (ap last_conclusion made.are_steps ∙ last_said 0 made.whole)) (typing_said (conclusion_of made.whole) found.0 tree (tree_alike made.whole found.0 found.1) found.2),
+    )
+
+said_of_last : (steps : List Step) → said_at steps (length steps - 1) ≡ last_conclusion steps
+said_of_last [] = refl
+said_of_last (s ∷ []) = refl
+said_of_last (s ∷ t ∷ steps) =
+    let less : length (s ∷ t ∷ steps) - 1 ≡ suc (length (t ∷ steps) - 1) = omega arith in
+    ap (said_at (s ∷ t ∷ steps)) less ∙ said_of_last (t ∷ steps)
+
+pub last_got : (steps : List RustStep) (got : Option (Bor RustStep)) → option_copied got ≡ slice_get steps (length steps - 1) → said_by got ≡ last_conclusion (map step_of steps)
+last_got steps got is =
+    let same : length steps - 1 ≡ length (map step_of steps) - 1 = (let long = length-map steps step_of in omega arith) in
+    said_got steps (length steps - 1) got is ∙ ap (said_at (map step_of steps)) same ∙ said_of_last (map step_of steps)
+
+-- all steps have been read
+pub whole_list : (steps : List RustStep) (i : ℕ) (lasts : List ℕ) (have : Bool) → length steps ≤ i → AreSoFar (take i (map step_of steps)) lasts have → AreSoFar (map step_of steps) lasts have
+whole_list steps i lasts have past h = subst (λ ss. AreSoFar ss lasts have) (take_all i (map step_of steps) (let long = length-map steps step_of in omega arith)) h

@@ -15,10 +15,9 @@ use Rattle.lam_query.proofs.OneProof.{one_proof_of_steps}
 use Rattle.lam_query.specs.Sizes.{IsSizeFault}
 use Rattle.lam_query.specs.FirstFaults.{AreOfOneProof, AreOfProofs, DifferFirst, HasContext, HasNames, HasRange, IsFaultAt, IsFaultIn, IsFaultInText, IsFirstFault, IsFirstMisplaced, IsFirstUnfitEntry, IsFirstWithRange, IsTooLarge, MakeTree, entries_listed}
 use Rattle.lam_query.specs.Judgements.{Judgement, Follows, AllFollow, IsFirstFailing, judgements}
-use Rattle.lam_query.specs.Levels.{AreTooDeep, IsChain}
 use Rattle.lam_query.specs.declared.answers.FirstFault.{FirstFault}
 use Rattle.lam_query.specs.declared.answers.FirstFault.TheVariants as faults
-use Rattle.lam_query.proofs.Judging.{follows}
+use Rattle.lam_query.proofs.Following.{follows}
 use Rattle.lam_query.proofs.ListedEntries.{unfit_no_context}
 use Rattle.lam_query.proofs.Misplaced.{one_is_placed, never_empty}
 
@@ -103,14 +102,13 @@ at_term term x d (faults.Entry n) h = entry n refl h.0 h.1
 at_term term x d (faults.Step n) h = step n h.1 refl h.0 h.2 h.3
 at_term term x d (faults.Range n) h = range n h.1 refl h.0 h.2 h.3 h.4
 at_term term x d faults.NoStep h = absurd h
-at_term term x d faults.TooDeep h = absurd h
 at_term term x d (faults.Premises n) h = absurd h
 at_term term x d (faults.Loose n) h = absurd h
 at_term term x d faults.TooLarge h = absurd h
 at_term term x d (faults.NoTerm n) h = absurd h
 
 -- a valid tree and a step that does not follow
-valid_and_failing : {A : Type 0} (term : PlacedTree) (x : Derivation) (d : Dialect) (n : ℕ) (tree also : TypingTree) → MakeTree x.steps tree → MakeTree x.steps also
+pub valid_and_failing : {A : Type 0} (term : PlacedTree) (x : Derivation) (d : Dialect) (n : ℕ) (tree also : TypingTree) → MakeTree x.steps tree → MakeTree x.steps also
     → IsTyping (entries_listed x) (term_of term).place.here tree d → IsFirstFailing d 0 (judgements (entries_listed x) (term_of term).place.here also) n → A
 valid_and_failing term x d n tree also made too valid failing =
     let same = one_made x.steps tree also made too in
@@ -154,7 +152,6 @@ among_terms commands x d (faults.Entry n) h = of_term h.0 h.1 h.2
 among_terms commands x d (faults.Step n) h = of_term h.0 h.1 h.2
 among_terms commands x d (faults.Range n) h = of_term h.0 h.1 h.2
 among_terms commands x d faults.NoStep h = of_term h.0 h.1 h.2
-among_terms commands x d faults.TooDeep h = of_term h.0 h.1 h.2
 among_terms commands x d (faults.Premises n) h = of_term h.0 h.1 h.2
 among_terms commands x d (faults.Loose n) h = of_term h.0 h.1 h.2
 among_terms commands x d faults.TooLarge h = of_term h.0 h.1 h.2
@@ -175,17 +172,15 @@ one_among commands x d a b (of_term number first h) (of_term other too k) =
 
 data InText (text : List ℕ) (x : Derivation) (d : Dialect) (fault : FirstFault) : Type 0 where
   no_step : fault ≡ faults.NoStep → x.steps ≡ [] → InText text x d fault
-  too_deep : fault ≡ faults.TooDeep → AreTooDeep x.steps → InText text x d fault
-  misplaced : (n : ℕ) → fault ≡ faults.Premises n → (AreTooDeep x.steps → ⊥) → IsFirstMisplaced x.steps n → InText text x d fault
-  loose : (n : ℕ) → fault ≡ faults.Loose n → (AreTooDeep x.steps → ⊥) → AreOfProofs x.steps → suc n ≡ length x.steps → ((tree : TypingTree) → MakeTree x.steps tree → ⊥) → InText text x d fault
+  misplaced : (n : ℕ) → fault ≡ faults.Premises n → IsFirstMisplaced x.steps n → InText text x d fault
+  loose : (n : ℕ) → fault ≡ faults.Loose n → AreOfProofs x.steps → suc n ≡ length x.steps → ((tree : TypingTree) → MakeTree x.steps tree → ⊥) → InText text x d fault
   too_large : fault ≡ faults.TooLarge → AreOfOneProof x.steps → IsTooLarge text d → InText text x d fault
   in_text : IsFaultInText text x d fault → InText text x d fault
 
 in_a_text : (text : List ℕ) (x : Derivation) (d : Dialect) (fault : FirstFault) → IsFirstFault text x d fault → InText text x d fault
 in_a_text text x d faults.NoStep h = no_step refl h
-in_a_text text x d faults.TooDeep h = too_deep refl h
-in_a_text text x d (faults.Premises n) h = misplaced n refl h.0 h.1
-in_a_text text x d (faults.Loose n) h = loose n refl h.0 h.1 h.2 h.3
+in_a_text text x d (faults.Premises n) h = misplaced n refl h
+in_a_text text x d (faults.Loose n) h = loose n refl h.0 h.1 h.2
 in_a_text text x d faults.TooLarge h = too_large refl h.0 h.1
 in_a_text text x d (faults.NoTerm n) h = in_text h
 in_a_text text x d faults.Names h = in_text h
@@ -196,14 +191,6 @@ in_a_text text x d (faults.Range n) h = in_text h
 -- a list with a step at some index is not empty
 not_empty_inside : {A : Type 0} (steps : List Step) (n : ℕ) → steps ≡ [] → n < length steps → A
 not_empty_inside steps n none inside = let empty = ap length none in absurd (omega (arith, empty))
-
-not_empty_deep : {A : Type 0} (steps : List Step) → steps ≡ [] → AreTooDeep steps → A
-not_empty_deep steps none deep = go deep.chain deep.long (subst (λ ss. IsChain ss deep.chain) none deep.is_chain)
-  where
-    go : {A : Type 0} (chain : List ℕ) → 16384 < length chain → IsChain [] chain → A
-    go [] long h = absurd (omega arith)
-    go (last ∷ []) long h = absurd (omega arith)
-    go (number ∷ premise ∷ others) long h = let under = h.0.1 in absurd (omega (arith, under))
 
 not_empty_one : {A : Type 0} (steps : List Step) → steps ≡ [] → AreOfOneProof steps → A
 not_empty_one steps none one = never_empty steps one.make.whole one.make.are_steps (ap length none)
@@ -228,39 +215,28 @@ one_in_text text x d a b h k =
 
 one_stage : (text : List ℕ) (x : Derivation) (d : Dialect) (a b : FirstFault) → InText text x d a → InText text x d b → a ≡ b
 one_stage text x d a b (no_step is h) (no_step also k) = is ∙ sym also
-one_stage text x d a b (no_step is h) (too_deep also k) = not_empty_deep x.steps h k
-one_stage text x d a b (no_step is h) (misplaced m also flat k) = not_empty_inside x.steps m h k.inside
-one_stage text x d a b (no_step is h) (loose m also flat placed long k) = not_empty_inside x.steps m h (omega arith)
+one_stage text x d a b (no_step is h) (misplaced m also k) = not_empty_inside x.steps m h k.inside
+one_stage text x d a b (no_step is h) (loose m also placed long k) = not_empty_inside x.steps m h (omega arith)
 one_stage text x d a b (no_step is h) (too_large also one k) = not_empty_one x.steps h one
 one_stage text x d a b (no_step is h) (in_text k) = not_empty_one x.steps h k.of_one_proof
-one_stage text x d a b (too_deep is h) (no_step also k) = not_empty_deep x.steps k h
-one_stage text x d a b (too_deep is h) (too_deep also k) = is ∙ sym also
-one_stage text x d a b (too_deep is h) (misplaced m also flat k) = absurd (flat h)
-one_stage text x d a b (too_deep is h) (loose m also flat placed long k) = absurd (flat h)
-one_stage text x d a b (too_deep is h) (too_large also one k) = absurd (one.not_deep h)
-one_stage text x d a b (too_deep is h) (in_text k) = absurd (k.of_one_proof.not_deep h)
-one_stage text x d a b (misplaced n is flat h) (no_step also k) = not_empty_inside x.steps n k h.inside
-one_stage text x d a b (misplaced n is flat h) (too_deep also k) = absurd (flat k)
-one_stage text x d a b (misplaced n is flat h) (misplaced m also too k) = is ∙ ap (λ i. faults.Premises i) (one_misplaced x.steps n m h k) ∙ sym also
-one_stage text x d a b (misplaced n is flat h) (loose m also too placed long k) = misplaced_of_proofs x.steps n h placed
-one_stage text x d a b (misplaced n is flat h) (too_large also one k) = misplaced_of_one x.steps n h one
-one_stage text x d a b (misplaced n is flat h) (in_text k) = misplaced_of_one x.steps n h k.of_one_proof
-one_stage text x d a b (loose n is flat placed long h) (no_step also k) = not_empty_inside x.steps n k (omega arith)
-one_stage text x d a b (loose n is flat placed long h) (too_deep also k) = absurd (flat k)
-one_stage text x d a b (loose n is flat placed long h) (misplaced m also too k) = misplaced_of_proofs x.steps m k placed
-one_stage text x d a b (loose n is flat placed long h) (loose m also too well far k) = is ∙ ap (λ i. faults.Loose i) (one_length n m (length x.steps) long far) ∙ sym also
-one_stage text x d a b (loose n is flat placed long h) (too_large also one k) = absurd (h one.tree one.make)
-one_stage text x d a b (loose n is flat placed long h) (in_text k) = absurd (h k.of_one_proof.tree k.of_one_proof.make)
+one_stage text x d a b (misplaced n is h) (no_step also k) = not_empty_inside x.steps n k h.inside
+one_stage text x d a b (misplaced n is h) (misplaced m also k) = is ∙ ap (λ i. faults.Premises i) (one_misplaced x.steps n m h k) ∙ sym also
+one_stage text x d a b (misplaced n is h) (loose m also placed long k) = misplaced_of_proofs x.steps n h placed
+one_stage text x d a b (misplaced n is h) (too_large also one k) = misplaced_of_one x.steps n h one
+one_stage text x d a b (misplaced n is h) (in_text k) = misplaced_of_one x.steps n h k.of_one_proof
+one_stage text x d a b (loose n is placed long h) (no_step also k) = not_empty_inside x.steps n k (omega arith)
+one_stage text x d a b (loose n is placed long h) (misplaced m also k) = misplaced_of_proofs x.steps m k placed
+one_stage text x d a b (loose n is placed long h) (loose m also well far k) = is ∙ ap (λ i. faults.Loose i) (one_length n m (length x.steps) long far) ∙ sym also
+one_stage text x d a b (loose n is placed long h) (too_large also one k) = absurd (h one.tree one.make)
+one_stage text x d a b (loose n is placed long h) (in_text k) = absurd (h k.of_one_proof.tree k.of_one_proof.make)
 one_stage text x d a b (too_large is one h) (no_step also k) = not_empty_one x.steps k one
-one_stage text x d a b (too_large is one h) (too_deep also k) = absurd (one.not_deep k)
-one_stage text x d a b (too_large is one h) (misplaced m also flat k) = misplaced_of_one x.steps m k one
-one_stage text x d a b (too_large is one h) (loose m also flat placed long k) = absurd (k one.tree one.make)
+one_stage text x d a b (too_large is one h) (misplaced m also k) = misplaced_of_one x.steps m k one
+one_stage text x d a b (too_large is one h) (loose m also placed long k) = absurd (k one.tree one.make)
 one_stage text x d a b (too_large is one h) (too_large also too k) = is ∙ sym also
 one_stage text x d a b (too_large is one h) (in_text k) = large_not_small text x d b h k
 one_stage text x d a b (in_text h) (no_step also k) = not_empty_one x.steps k h.of_one_proof
-one_stage text x d a b (in_text h) (too_deep also k) = absurd (h.of_one_proof.not_deep k)
-one_stage text x d a b (in_text h) (misplaced m also flat k) = misplaced_of_one x.steps m k h.of_one_proof
-one_stage text x d a b (in_text h) (loose m also flat placed long k) = absurd (k h.of_one_proof.tree h.of_one_proof.make)
+one_stage text x d a b (in_text h) (misplaced m also k) = misplaced_of_one x.steps m k h.of_one_proof
+one_stage text x d a b (in_text h) (loose m also placed long k) = absurd (k h.of_one_proof.tree h.of_one_proof.make)
 one_stage text x d a b (in_text h) (too_large also one k) = large_not_small text x d a k h
 one_stage text x d a b (in_text h) (in_text k) = one_in_text text x d a b h k
 

@@ -1,7 +1,6 @@
 -- What is found wrong with a derivation: as one about a term, about a term of some commands, and in a text.
-use Rattle.std.proofs.Common.{◌≡◌, ℕ, zero, suc, ◌+◌, ◌<◌, ◌≤◌, min, List, [], ◌∷◌, length, get_or, take, map, slice_get, Option, Some, None, false, refl, sym, ap, subst, ◌∙◌, arith}
+use Rattle.std.proofs.Common.{◌≡◌, ℕ, zero, suc, ◌+◌, ◌<◌, ◌≤◌, List, [], ◌∷◌, length, map, slice_get, Option, Some, None, false, refl, sym, ap, subst, ◌∙◌, arith}
 use Rattle.std.specs.Option.{unwrap_or}
-use Rattle.std.proofs.lemmas.List.{length-map, take-map}
 use Rattle.lam_query.specs.Views.{step_of}
 use Rattle.lam_query.specs.declared.answers.Step.{Step as RustStep}
 use Rattle.lam_token.specs.declared.span.Span.{Span}
@@ -14,14 +13,12 @@ use Rattle.lam_scope.specs.Views.{table_of, AreScopesOf}
 use Rattle.lam_scope.specs.declared.scopes.Scopes.{Scopes}
 use Rattle.lam_query.specs.Commands.{AreCommandsOfText}
 use Rattle.lam_query.specs.Derivations.{Derivation}
-use Rattle.lam_query.specs.ProofTrees.{typing_tree_in}
 use Rattle.lam_query.specs.Sizes.{IsSizeFault, IsSmall}
-use Rattle.lam_query.specs.Steps.{Proof, Step, steps_of, typing_proof}
+use Rattle.lam_query.specs.Steps.{Step, typing_proof}
 use Rattle.lam_query.proofs.OneAnswer.{one_document}
 use Rattle.lam_query.proofs.ReadTrees.{tree_read}
-use Rattle.lam_query.specs.FirstFaults.{DifferFirst, IsFaultAt, IsFaultIn, IsFirstFault, IsFirstMisplaced, IsFirstWithRange, IsResult, IsSound, AreOfOneProof, AreOfProofs, HasRange, last_span}
-use Rattle.lam_query.specs.Levels.{AreTooDeep}
-use Rattle.lam_query.specs.Verified.{IsProofAt}
+use Rattle.lam_query.specs.FirstFaults.{DifferFirst, IsFaultAt, IsFaultIn, IsFirstFault, IsFirstMisplaced, IsFirstWithRange, IsResult, MakeTree, AreOfOneProof, AreOfProofs, HasRange, last_span}
+use Rattle.lam_query.specs.Verified.{IsProofAt, IsVerified}
 use Rattle.lam_query.specs.declared.answers.FirstFault.{FirstFault}
 use Rattle.lam_query.specs.declared.answers.FirstFault.TheVariants as faults
 use Rattle.lam_query.specs.inner.Verifying.{IsOfSomeTerm, IsResultIn}
@@ -83,7 +80,6 @@ in_commands commands x d number (faults.Entry k) first h = (number, first, h)
 in_commands commands x d number (faults.Step k) first h = (number, first, h)
 in_commands commands x d number (faults.Range k) first h = (number, first, h)
 in_commands commands x d number faults.NoStep first h = absurd h
-in_commands commands x d number faults.TooDeep first h = absurd h
 in_commands commands x d number (faults.Premises k) first h = absurd h
 in_commands commands x d number (faults.Loose k) first h = absurd h
 in_commands commands x d number faults.TooLarge first h = absurd h
@@ -113,8 +109,8 @@ row_is commands scopes x i are is = (row_written commands scopes i are is.0, is.
 -- ---- in a text
 
 -- nothing else is wrong first
-wrong_alone : (text : List ℕ) (x : Derivation) (d : Dialect) (fault : FirstFault) → (IsSound text x d → ⊥) → IsFirstFault text x d fault → IsResult text x d (Some fault)
-wrong_alone text x d fault not_sound first = (not_sound, first, (λ other also. one_fault text x d other fault also first))
+wrong_alone : (text : List ℕ) (x : Derivation) (d : Dialect) (fault : FirstFault) → (IsVerified text x d → ⊥) → IsFirstFault text x d fault → IsResult text x d (Some fault)
+wrong_alone text x d fault not_verified first = (not_verified, first, (λ other also. one_fault text x d other fault also first))
 
 in_text : (text : List ℕ) (x : Derivation) (commands : List CommandTree) (d : Dialect) (fault : FirstFault) → AreOfOneProof x.steps → AreCommandsOfText text commands → IsSmall commands d
     → IsFaultIn commands x d fault → IsFirstFault text x d fault
@@ -124,7 +120,6 @@ in_text text x commands d (faults.Step k) one are small h = record { of_one_proo
 in_text text x commands d (faults.Range k) one are small h = record { of_one_proof = one; commands = commands; are_commands = are; small = small; is_fault = h }
 in_text text x commands d (faults.NoTerm k) one are small h = record { of_one_proof = one; commands = commands; are_commands = are; small = small; is_fault = h }
 in_text text x commands d faults.NoStep one are small h = absurd h.2
-in_text text x commands d faults.TooDeep one are small h = absurd h.2
 in_text text x commands d (faults.Premises k) one are small h = absurd h.2
 in_text text x commands d (faults.Loose k) one are small h = absurd h.2
 in_text text x commands d faults.TooLarge one are small h = absurd h.2
@@ -132,10 +127,9 @@ in_text text x commands d faults.TooLarge one are small h = absurd h.2
 pub result_in_text : (text : List ℕ) (x : Derivation) (commands : List CommandTree) (d : Dialect) (found : Option FirstFault) → AreOfOneProof x.steps → AreCommandsOfText text commands → IsSmall commands d
     → IsResultIn commands x d found → IsResult text x d found
 result_in_text text x commands d None one are small h =
-    (record { commands = commands; are_commands = are; small = small; number = h.number; inside = h.inside; is_proof = h.is_proof }, one.not_deep)
+    record { commands = commands; are_commands = are; small = small; number = h.number; inside = h.inside; is_proof = h.is_proof }
 result_in_text text x commands d (Some fault) one are small h = wrong_alone text x d fault
-    (λ sound.
-    let v = sound.0 in
+    (λ v.
     let same = one_document text v.commands commands v.are_commands are in
     h.0 (subst (λ cs. IsOfSomeTerm cs x d) same (record { number = v.number; inside = v.inside; is_proof = v.is_proof })))
     (in_text text x commands d fault one are small h.1)
@@ -143,7 +137,7 @@ result_in_text text x commands d (Some fault) one are small h = wrong_alone text
 pub result_too_large : (text : List ℕ) (x : Derivation) (commands : List CommandTree) (d : Dialect) (s : Span) → AreOfOneProof x.steps → AreCommandsOfText text commands → IsSizeFault commands s d
     → IsResult text x d (Some faults.TooLarge)
 result_too_large text x commands d s one are fault =
-    wrong_alone text x d faults.TooLarge (λ sound. too_large text commands x d s are fault sound.0) (one, record { commands = commands; are_commands = are; span = s; is_fault = fault })
+    wrong_alone text x d faults.TooLarge (λ v. too_large text commands x d s are fault v) (one, record { commands = commands; are_commands = are; span = s; is_fault = fault })
 
 -- ---- the steps by themselves
 
@@ -154,71 +148,21 @@ no_steps (s ∷ steps) is = absurd (omega arith)
 pub result_no_step : (text : List ℕ) (x : Derivation) (d : Dialect) → x.steps ≡ [] → IsResult text x d (Some faults.NoStep)
 result_no_step text x d none =
     wrong_alone text x d faults.NoStep
-    (λ sound. never_empty x.steps (typing_proof (tree_in (document_terms sound.0.commands) sound.0.number) sound.0.is_proof.tree) sound.0.is_proof.steps (ap length none)) none
+    (λ v. never_empty x.steps (typing_proof (tree_in (document_terms v.commands) v.number) v.is_proof.tree) v.is_proof.steps (ap length none)) none
 
-pub result_premises : (text : List ℕ) (x : Derivation) (d : Dialect) (number : ℕ) → (AreTooDeep x.steps → ⊥) → IsFirstMisplaced x.steps number → IsResult text x d (Some (faults.Premises number))
-result_premises text x d number not_deep h =
+pub result_premises : (text : List ℕ) (x : Derivation) (d : Dialect) (number : ℕ) → IsFirstMisplaced x.steps number → IsResult text x d (Some (faults.Premises number))
+result_premises text x d number h =
     wrong_alone text x d (faults.Premises number)
-    (λ sound. one_is_placed x.steps (typing_proof (tree_in (document_terms sound.0.commands) sound.0.number) sound.0.is_proof.tree) number sound.0.is_proof.steps h) (not_deep, h)
+    (λ v. one_is_placed x.steps (typing_proof (tree_in (document_terms v.commands) v.number) v.is_proof.tree) number v.is_proof.steps h) h
 
-pub result_loose : (text : List ℕ) (x : Derivation) (d : Dialect) (last : ℕ) → (AreTooDeep x.steps → ⊥) → AreOfProofs x.steps → suc last ≡ length x.steps
-    → ((p : Proof) (tree : TypingTree) → x.steps ≡ steps_of 0 p → typing_tree_in p ≡ Some tree → ⊥) → IsResult text x d (Some (faults.Loose last))
-result_loose text x d last not_deep placed is none =
+pub result_loose : (text : List ℕ) (x : Derivation) (d : Dialect) (last : ℕ) → AreOfProofs x.steps → suc last ≡ length x.steps
+    → ((tree : TypingTree) → MakeTree x.steps tree → ⊥) → IsResult text x d (Some (faults.Loose last))
+result_loose text x d last placed is none =
     wrong_alone text x d (faults.Loose last)
-    (λ sound.
-    let term = tree_in (document_terms sound.0.commands) sound.0.number in
-    none (typing_proof term sound.0.is_proof.tree) sound.0.is_proof.tree sound.0.is_proof.steps (tree_read term sound.0.is_proof.tree))
-    (not_deep, placed, is, (λ tree m. none m.whole tree m.are_steps m.is_tree))
-
--- ---- lists that differ
-
-past_end : {A : Type 0} (xs : List A) (i : ℕ) → None ≡ slice_get xs i → length xs ≤ i
-past_end [] i is = omega arith
-past_end (x ∷ xs) zero is = let clash : None ≡ Some x = is in absurd cc
-past_end (x ∷ xs) (suc i) is = let rest = past_end xs i is in omega arith
-
-before_end : {A : Type 0} (xs : List A) (i : ℕ) (x : A) → Some x ≡ slice_get xs i → i < length xs
-before_end [] i x is = let clash : Some x ≡ None = is in absurd cc
-before_end (y ∷ xs) zero x is = omega arith
-before_end (y ∷ xs) (suc i) x is = let rest = before_end xs i x is in omega arith
-
-there : {A B : Type 0} (f : A → B) (xs : List A) (i : ℕ) (x : A) → i < length xs → slice_get (map f xs) i ≡ Some (f (get_or xs i x))
-there f [] i x inside = absurd (omega arith)
-there f (y ∷ xs) zero x inside = refl
-there f (y ∷ xs) (suc i) x inside = there f xs i x (omega arith)
-
-same_fronts : (steps others : List RustStep) (i : ℕ) → map step_of (take i steps) ≡ map step_of (take i others) → take i (map step_of steps) ≡ take i (map step_of others)
-same_fronts steps others i same = take-map step_of i steps ∙ same ∙ sym (take-map step_of i others)
-
-pub differ_there : (steps others : List RustStep) (i : ℕ) (x y : RustStep) → i < length steps → i < length others → x ≡ get_or steps i x → y ≡ get_or others i y → (step_of x ≡ step_of y → ⊥)
-    → map step_of (take i steps) ≡ map step_of (take i others) → DifferFirst (map step_of steps) (map step_of others) i
-differ_there steps others i x y inside within is are other same = record {
-  same = same_fronts steps others i same;
-  differ = λ e.
-      let both : Some (step_of (get_or steps i x)) ≡ Some (step_of (get_or others i y)) = sym (there step_of steps i x inside) ∙ e ∙ there step_of others i y within in
-      let here : step_of (get_or steps i x) ≡ step_of (get_or others i y) = cc in
-      other (ap step_of is ∙ here ∙ ap step_of (sym are));
-}
-
-both_end : (xs ys : List Step) (i : ℕ) (o : Option Step) → i ≡ min (length xs) (length ys) → (length xs ≡ length ys → ⊥) → o ≡ slice_get xs i → o ≡ slice_get ys i → ⊥
-both_end xs ys i None is other left right =
-    let a = past_end xs i left in
-    let b = past_end ys i right in
-    other (omega arith)
-both_end xs ys i (Some x) is other left right =
-    let a = before_end xs i x left in
-    let b = before_end ys i x right in
-    absurd (omega arith)
-
-pub differ_at_end : (steps others : List RustStep) (i : ℕ) → i ≡ min (length steps) (length others) → (length steps ≡ length others → ⊥)
-    → map step_of (take i steps) ≡ map step_of (take i others) → DifferFirst (map step_of steps) (map step_of others) i
-differ_at_end steps others i is other same =
-    let a = length-map steps step_of in
-    let b = length-map others step_of in
-    record {
-      same = same_fronts steps others i same;
-      differ = λ e. both_end (map step_of steps) (map step_of others) i (slice_get (map step_of steps) i) (omega arith) (λ long. other (omega (arith, long))) refl e;
-    }
+    (λ v.
+    let term = tree_in (document_terms v.commands) v.number in
+    none v.is_proof.tree (record { whole = typing_proof term v.is_proof.tree; are_steps = v.is_proof.steps; is_tree = tree_read term v.is_proof.tree }))
+    (placed, is, none)
 
 pub no_difference : {A : Type 0} (xs ys : List Step) (n : ℕ) → DifferFirst xs ys n → xs ≡ ys → A
 no_difference xs ys n h same = absurd (h.differ (ap (λ zs. slice_get zs n) same))

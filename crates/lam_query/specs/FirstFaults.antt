@@ -1,4 +1,4 @@
--- What is wrong first with a derivation that is not verified, or is too deep. Steps and entries are counted from 0, entries from the outermost.
+-- What is wrong first with a derivation that is not verified. Steps and entries are counted from 0, entries from the outermost.
 use Rattle.std.specs.Prelude.{◌≡◌, ◌≢◌, ◌⊎◌, ℕ, suc, ◌<◌, List, [], ◌∷◌, length, take, map, reverse, slice_get, Option, Some, None, true}
 use Rattle.lam_token.specs.declared.span.Span.{Span}
 use Rattle.lam_rules.specs.Typing.{Context, TypingTree, IsTyping}
@@ -13,7 +13,6 @@ use Rattle.lam_query.specs.ProofTrees.{typing_tree_in}
 use Rattle.lam_query.specs.Sizes.{IsSizeFault, IsSmall, span_numbered}
 use Rattle.lam_query.specs.Steps.{Conclusion, typing, subtyping, Proof, Proofs, Step, steps_of, steps_of_each, typing_proof}
 use Rattle.lam_query.specs.Judgements.{judgements, IsFirstFailing}
-use Rattle.lam_query.specs.Levels.{AreTooDeep}
 use Rattle.lam_query.specs.Verified.{IsVerified}
 use Rattle.lam_query.specs.declared.answers.FirstFault.{FirstFault}
 use Rattle.lam_query.specs.declared.answers.FirstFault.TheVariants as faults
@@ -110,9 +109,8 @@ IsFaultIn commands x d fault = (number : ℕ) × IsFirstWithRange commands x.ste
 
 -- ---- in a text
 
--- The steps are those of one proof of typing, on at most 16,384 levels.
+-- The steps are those of one proof of typing.
 pub record AreOfOneProof (steps : List Step) : Type 0 where
-  pub not_deep : AreTooDeep steps → ⊥
   pub tree : TypingTree
   pub make : MakeTree steps tree
 
@@ -131,22 +129,17 @@ pub record IsTooLarge (text : List ℕ) (d : Dialect) : Type 0 where
   pub span : Span
   pub is_fault : IsSizeFault commands span d
 
--- What is wrong with a derivation, in this order: it has no step, or too many levels; its steps are not those of proofs, or not of one; a type of the text is too large;
+-- What is wrong with a derivation, in this order: it has no step; its steps are not those of proofs, or not of one of typing; a type of the text is too large;
 -- it is about no term of the text, or else what is wrong with it as one about a term.
 abbrev pub IsFirstFault : List ℕ → Derivation → Dialect → FirstFault → Type 0
 IsFirstFault text x d faults.NoStep = x.steps ≡ []
-IsFirstFault text x d faults.TooDeep = AreTooDeep x.steps
-IsFirstFault text x d (faults.Premises number) = (AreTooDeep x.steps → ⊥) × IsFirstMisplaced x.steps number
+IsFirstFault text x d (faults.Premises number) = IsFirstMisplaced x.steps number
 IsFirstFault text x d (faults.Loose number) =
-    (AreTooDeep x.steps → ⊥) × AreOfProofs x.steps × (suc number ≡ length x.steps) × ((tree : TypingTree) → MakeTree x.steps tree → ⊥)
+    AreOfProofs x.steps × (suc number ≡ length x.steps) × ((tree : TypingTree) → MakeTree x.steps tree → ⊥)
 IsFirstFault text x d faults.TooLarge = AreOfOneProof x.steps × IsTooLarge text d
 IsFirstFault text x d fault = IsFaultInText text x d fault
 
--- The derivation is verified, and its steps follow from each other on at most 16,384 levels.
-abbrev pub IsSound : List ℕ → Derivation → Dialect → Type 0
-IsSound text x d = IsVerified text x d × (AreTooDeep x.steps → ⊥)
-
--- `None` if the derivation is sound; otherwise what is wrong first, and nothing else is
+-- `None` if the derivation is verified; otherwise what is wrong first, and nothing else is
 abbrev pub IsResult : List ℕ → Derivation → Dialect → Option FirstFault → Type 0
-IsResult text x d None = IsSound text x d
-IsResult text x d (Some fault) = (IsSound text x d → ⊥) × IsFirstFault text x d fault × ((other : FirstFault) → IsFirstFault text x d other → other ≡ fault)
+IsResult text x d None = IsVerified text x d
+IsResult text x d (Some fault) = (IsVerified text x d → ⊥) × IsFirstFault text x d fault × ((other : FirstFault) → IsFirstFault text x d other → other ≡ fault)

@@ -18,7 +18,6 @@ pub mod Views
 pub mod Completions
 pub mod WellTypedDocuments
 pub mod Analyses
-pub mod Levels
 pub mod Verified
 pub mod Judgements
 pub mod FirstFaults

@@ -1,5 +1,4 @@
 pub mod RowSteps
-pub mod Rebuilding
 pub mod Listing
 pub mod Contexts
 pub mod Listed
@@ -27,5 +26,7 @@ pub mod StandIns
 pub mod SeenBinders
 pub mod Typings
 pub mod Explained
-pub mod Levels
+pub mod Walking
+pub mod Placing
+pub mod Ranges
 pub mod Verifying

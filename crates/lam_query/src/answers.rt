@@ -89,8 +89,6 @@ pub enum Step {
 pub enum FirstFault {
     /// There is no step.
     NoStep,
-    /// The steps follow from each other on more than 16,384 levels.
-    TooDeep,
     /// The premises of this step are not the last steps of the proofs directly before it.
     Premises(usize),
     /// This is the last step, and the steps together are not those of one proof of typing.

@@ -1,78 +1,110 @@
-//! How the steps of a derivation follow from each other: whether on too many levels, and the first with misplaced premises.
-ghost use Rattle.std.specs.Prelude.{◌≡◌, ◌+◌, ◌≤◌, ◌↔◌, ℕ, IsTrue, IfOk, MatchOption, get_or, map};
+//! How the steps of a derivation follow from each other: the first with misplaced premises, and whether all are of one proof of
+//! typing.
+ghost use Rattle.std.specs.Prelude.{◌↔◌, IsTrue, IfOk, map};
 ghost use Rattle.lam_query.specs.Views.{step_of};
-ghost use Rattle.lam_query.specs.FirstFaults.{AreOfProofs, IsFirstMisplaced};
-ghost use Rattle.lam_query.specs.Levels.{AreTooDeep};
-ghost use Rattle.lam_query.specs.inner.Levels.{highest_level};
+ghost use Rattle.lam_query.specs.inner.Placing.{AreSubtypings, AreTypingsFirst, IsPlacing, IsSubtypingSaid, IsTypingSaid, MayHave};
+ghost use Rattle.lam_query.specs.inner.Walking.{said_at, said_by};
 
 use crate::answers::Step;
+use crate::steps::{premises_of, step_at};
 use std::alloc::{AllocError, Global};
 
-/// The maximum depth of a derivation, so that recursion over it does not overflow the stack. No derivation from this program is
-/// deeper: its term has at most 2,000 tokens, and its types at most 4,096 nodes.
-const LEVELS: usize = 16_384;
-
-/// Returns whether steps depend on each other through more than `LEVELS` levels.
-pub(crate) fn is_too_deep(alloc: Global, steps: &[Step]) -> Result<bool, AllocError>
-    ensures { IfOk result (λ deep. IsTrue deep ↔ AreTooDeep (map step_of steps.now)) }
-{
-    let mut levels: Vec<usize> = Vec::with_capacity(alloc, steps.len())?;
-    for i in 0..steps.len() {
-        let step = &steps[i];
-        let level = level_over(&levels, premises_of(step));
-        if level > LEVELS {
-            return Ok(true);
-        }
-        levels.push(level)?;
-    }
-    Ok(false)
+/// How steps follow from each other.
+#[derive(Clone, Copy)]
+pub(crate) enum Placing {
+    /// The premises of this step are not the last steps of the proofs directly before it.
+    Misplaced(usize),
+    /// The steps are those of proofs, but not of one proof of typing.
+    Loose,
+    /// The steps are those of one proof of typing.
+    OneTyping,
 }
 
-/// One more than the greatest level of the premises.
-fn level_over(levels: &[usize], premises: &[usize]) -> usize
-    requires { (number : ℕ) → get_or levels.now number 0 ≤ 16384 }
-    ensures { result ≡ highest_level levels.now premises.now + 1 }
-{
-    let mut highest = 0;
-    for premise in premises {
-        highest = highest.max(level_at(levels, *premise));
-    }
-    highest + 1
-}
-
-/// The level of a step; 0 if it has none yet.
-fn level_at(levels: &[usize], number: usize) -> usize
-    ensures { result ≡ get_or levels.now number 0 }
-{
-    match levels.get(number) {
-        Some(level) => *level,
-        None => 0,
-    }
-}
-
-/// Returns the index of the first step whose premises are not the last steps of the proofs directly before it.
-pub(crate) fn first_misplaced(alloc: Global, steps: &[Step]) -> Result<Option<usize>, AllocError>
-    ensures { IfOk result (λ found. MatchOption found (AreOfProofs (map step_of steps.now)) (λ number. IsFirstMisplaced (map step_of steps.now) number)) }
+/// Returns how steps follow from each other.
+pub(crate) fn placing_of(alloc: Global, steps: &[Step]) -> Result<Placing, AllocError>
+    ensures { IfOk result (λ found. IsPlacing (map step_of steps.now) found) }
 {
     // The last steps of the proofs so far.
     let mut lasts: Vec<usize> = Vec::new(alloc);
+    let mut have_trees = true;
     for i in 0..steps.len() {
         let step = &steps[i];
         let premises = premises_of(step);
         if !lasts.ends_with(premises) {
-            return Ok(Some(i));
+            return Ok(Placing::Misplaced(i));
         }
         lasts.truncate(lasts.len() - premises.len());
         lasts.push(i)?;
+        have_trees = has_tree(have_trees, step, premises, steps);
     }
-    Ok(None)
+    if lasts.len() != 1 {
+        return Ok(Placing::Loose);
+    }
+    if !have_trees {
+        return Ok(Placing::Loose);
+    }
+    if !is_typing(steps.last()) {
+        return Ok(Placing::Loose);
+    }
+    Ok(Placing::OneTyping)
 }
 
-fn premises_of(step: &Step) -> &[usize]
-    ensures { result.now ≡ (step_of step.now).premises }
+/// Whether a step may have these premises, if the proofs before it have trees.
+fn has_tree(have_trees: bool, step: &Step, premises: &[usize], steps: &[Step]) -> bool
+    ensures { IsTrue result ↔ (MayHave (step_of step.now).conclusion (map (said_at (map step_of steps.now)) premises.now) × IsTrue have_trees) }
+{
+    if !have_trees {
+        return false;
+    }
+    match step {
+        Step::Typing { .. } => are_typings_first(premises, steps),
+        Step::Sub { .. } => are_subtypings(premises, steps),
+    }
+}
+
+/// Whether these steps are of typing, but for the last one, which may be of subtyping.
+fn are_typings_first(premises: &[usize], steps: &[Step]) -> bool
+    ensures { IsTrue result ↔ AreTypingsFirst (map (said_at (map step_of steps.now)) premises.now) }
+{
+    for k in 0..premises.len() {
+        let premise = step_at(steps, premises[k]);
+        if !is_typing(premise) {
+            if k + 1 < premises.len() {
+                return false;
+            }
+            return is_subtyping(premise);
+        }
+    }
+    true
+}
+
+fn are_subtypings(premises: &[usize], steps: &[Step]) -> bool
+    ensures { IsTrue result ↔ AreSubtypings (map (said_at (map step_of steps.now)) premises.now) }
+{
+    for number in premises {
+        if !is_subtyping(step_at(steps, *number)) {
+            return false;
+        }
+    }
+    true
+}
+
+fn is_typing(step: Option<&Step>) -> bool
+    ensures { IsTrue result ↔ IsTypingSaid (said_by step.entry) }
 {
     match step {
-        Step::Typing { premises, .. } => premises,
-        Step::Sub { premises, .. } => premises,
+        Some(Step::Typing { .. }) => true,
+        Some(Step::Sub { .. }) => false,
+        None => false,
+    }
+}
+
+fn is_subtyping(step: Option<&Step>) -> bool
+    ensures { IsTrue result ↔ IsSubtypingSaid (said_by step.entry) }
+{
+    match step {
+        Some(Step::Sub { .. }) => true,
+        Some(Step::Typing { .. }) => false,
+        None => false,
     }
 }

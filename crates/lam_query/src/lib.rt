@@ -27,8 +27,8 @@ mod hovers;
 mod laws;
 mod mismatches;
 mod pieces;
+mod ranges;
 mod reading;
-mod rebuilding;
 mod renames;
 mod row_faults;
 mod rows;
@@ -54,7 +54,6 @@ pub use laws::{
     steps_tell_the_proof,
 };
 pub use mismatches::explained_faults;
-pub use rebuilding::proof_of_steps;
 pub use renames::{RenameFault, rename};
 pub use text_faults::faults;
 pub use types_of_commands::command_types;

@@ -1,4 +1,4 @@
-//! Flattens proofs into lists of steps.
+//! Lists of steps: flattens proofs into them, and reads them.
 ghost use Rattle.std.specs.Prelude.{◌≡◌, ℕ, ◌+◌, ◌++◌, map, length, get_or, IfOk, OnOk, All, List};
 ghost use Rattle.std.specs.Option.{option_map};
 ghost use Rattle.lam_rules.specs.SubViews.{sub_tree_of, sub_trees_of};
@@ -14,6 +14,7 @@ ghost use Rattle.lam_query.specs.inner.RowSteps.{premise_places, row_proof, row_
 ghost use Rattle.lam_query.specs.Within.{IsSpanOfText};
 ghost use Rattle.lam_query.specs.Views.{step_of, StepStandsIn};
 ghost use Rattle.lam_query.specs.inner.Listing.{AreListed};
+ghost use Rattle.lam_query.specs.inner.Walking.{said_at, said_by};
 
 use crate::answers::Step;
 use lam_rules::{SubProof, TypeProof, TypeRule, copy_of};
@@ -65,7 +66,7 @@ fn list_typing(
 }
 
 /// The immediate subterms, if the premises of the step are about them.
-fn premise_places(scopes: &Scopes, place: Place, rule: TypeRule) -> &[Place]
+pub(crate) fn premise_places(scopes: &Scopes, place: Place, rule: TypeRule) -> &[Place]
     ensures { map place_number result.now ≡ premise_places (table_of scopes.now) place.0 rule }
 {
     match rule {
@@ -100,7 +101,7 @@ fn list_typings(
 
 /// Returns the place at this index, or else the other one.
 #[tactic(auto, using(lam_scope::proofs::Reading::reading))]
-fn place_or(places: &[Place], number: usize, other: Place) -> Place
+pub(crate) fn place_or(places: &[Place], number: usize, other: Place) -> Place
     ensures { result.0 ≡ get_or (map place_number places.now) number other.0 }
 {
     match places.get(number) {
@@ -164,4 +165,21 @@ fn list_subs(
         numbers.push(last)?;
     }
     Ok(numbers)
+}
+
+/// The premises of a step.
+pub(crate) fn premises_of(step: &Step) -> &[usize]
+    ensures { result.now ≡ (step_of step.now).premises }
+{
+    match step {
+        Step::Typing { premises, .. } => premises,
+        Step::Sub { premises, .. } => premises,
+    }
+}
+
+/// The step with this index, if there is one.
+pub(crate) fn step_at(steps: &[Step], number: usize) -> Option<&Step>
+    ensures { said_by result ≡ said_at (map step_of steps.now) number }
+{
+    steps.get(number)
 }

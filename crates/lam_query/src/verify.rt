@@ -1,8 +1,8 @@
 //! Verification of a derivation against its text.
 //!
-//! Whoever made the derivation is not trusted: the context must list the names that a term of the text sees, each with a type
-//! that it may have there; the proof checker must accept the tree made of the steps as a proof for that term; and the steps of
-//! the tree, with the ranges of the term's parts, must equal those given. The first of these that fails is named.
+//! Whoever made the derivation is not trusted: the steps must be those of one proof of typing; the context must list the names that
+//! a term of the text sees, each with a type that it may have there; each step must follow by its rule from its premises, for that
+//! term; and each must have the range of the part that it is about. The first of these that fails is named.
 ghost use Rattle.std.specs.List.{AllZip};
 ghost use Rattle.std.specs.Prelude.{◌≡◌, ◌<◌, ◌↔◌, IsTrue, List, [], length, Some, None, map, IfOk, MatchOption, false};
 ghost use Rattle.lam_rules.specs.TermViews.{term_of as core_of, written_of};
@@ -27,12 +27,11 @@ ghost use Rattle.lam_query.specs.inner.Verifying.{IsClaim, IsFirstNot, IsResultA
 
 use crate::answers::{Derivation, FirstFault, Step};
 use crate::commands::commands_of;
-use crate::first_faults::{first_misplaced, is_too_deep};
-use crate::rebuilding::proof_of_steps;
-use crate::steps::steps_of_proof;
+use crate::first_faults::{Placing, placing_of};
+use crate::ranges::first_misranged;
 use crate::typings::{Types, types_of};
-use crate::wrong_steps::{copy_of_entry, wrong_step};
-use lam_rules::{Core, Dialect, SubRule, Ty, TypeProof, TypeRule, check_type, same};
+use crate::wrong_steps::{copy_of_entry, first_wrong};
+use lam_rules::{Dialect, Ty};
 use lam_scope::{Binder, Origin, Place, Scopes, bind};
 use lam_token::Span;
 use lam_typing::Typing;
@@ -46,12 +45,11 @@ struct TypedText {
     dialect: Dialect,
 }
 
-/// A derivation, with the types of its context and the proof made of its steps.
+/// A derivation whose steps are those of one proof of typing, with the types of its context.
 #[derive(Clone, Copy)]
 struct Claim<'a> {
     derivation: &'a Derivation,
     entries: &'a [Option<Ty>],
-    proof: &'a TypeProof,
 }
 
 /// Returns the first error in a derivation, or `None` if it is a valid one about a term of the text.
@@ -66,22 +64,18 @@ pub fn first_fault(
     if derivation.steps.is_empty() {
         return Ok(Some(FirstFault::NoStep));
     }
-    if is_too_deep(alloc, &derivation.steps)? {
-        return Ok(Some(FirstFault::TooDeep));
+    match placing_of(alloc, &derivation.steps)? {
+        Placing::Misplaced(number) => Ok(Some(FirstFault::Premises(number))),
+        Placing::Loose => Ok(Some(FirstFault::Loose(derivation.steps.len() - 1))),
+        Placing::OneTyping => {
+            let entries = entries_of(alloc, &derivation.context)?;
+            let claim = Claim {
+                derivation,
+                entries: &entries,
+            };
+            fault_in_text(alloc, text, &claim, dialect)
+        }
     }
-    if let Some(number) = first_misplaced(alloc, &derivation.steps)? {
-        return Ok(Some(FirstFault::Premises(number)));
-    }
-    let Some(proof) = proof_of_steps(alloc, &derivation.steps)? else {
-        return Ok(Some(FirstFault::Loose(derivation.steps.len() - 1)));
-    };
-    let entries = entries_of(alloc, &derivation.context)?;
-    let claim = Claim {
-        derivation,
-        entries: &entries,
-        proof: &proof,
-    };
-    fault_in_text(alloc, text, &claim, dialect)
 }
 
 /// The first error in a claim about a text.
@@ -117,7 +111,7 @@ fn entries_of(
     let mut entries = Vec::with_capacity(alloc, context.len())?;
     for i in 0..context.len() {
         let entry = &context[i];
-        entries.push(copy_of_entry(&entry.1)?)?;
+        entries.push(copy_of_entry(entry.1.as_ref())?)?;
     }
     Ok(entries)
 }
@@ -165,12 +159,12 @@ impl TypedText {
             return Ok(Some(FirstFault::Entry(number)));
         }
         let term = self.types.resolved.core_at(place);
-        if !check_type(claim.entries, term, claim.proof, self.dialect) {
-            let number = claim.first_wrong_step(alloc, term, self.dialect)?;
+        let entries = entries_of(alloc, &claim.derivation.context)?;
+        let steps = &claim.derivation.steps;
+        if let Some(number) = first_wrong(alloc, entries, term, steps, self.dialect)? {
             return Ok(Some(FirstFault::Step(number)));
         }
-        let steps = steps_of_proof(alloc, &self.scopes, place, claim.proof)?;
-        match first_other(&claim.derivation.steps, &steps) {
+        match first_misranged(alloc, &self.scopes, place, steps)? {
             Some(number) => Ok(Some(FirstFault::Range(number))),
             None => Ok(None),
         }
@@ -195,24 +189,6 @@ impl TypedText {
         let binders = self.scopes.visible_at(alloc, place)?;
         let origins = self.types.resolved.origins();
         first_unfit(&self.types.typing, origins, &binders, claim.entries)
-    }
-}
-
-impl Claim<'_> {
-    /// The index of the first step that does not follow by its rule, if the proof is not valid for the term.
-    fn first_wrong_step(
-        &self,
-        alloc: Global,
-        term: &Core,
-        dialect: Dialect,
-    ) -> Result<usize, AllocError>
-        requires claim { IsClaim self.now }
-        requires wrong { IsTyping (entries_listed (derivation_of self.now.derivation.now)) (core_of term.now) (typing_tree_of self.now.proof.now) dialect → ⊥ }
-        ensures { let all = judgements (entries_listed (derivation_of self.now.derivation.now)) (core_of term.now) (typing_tree_of self.now.proof.now) in
-            IfOk result (λ number. IsFirstFailing dialect 0 all number) }
-    {
-        let mut context = entries_of(alloc, &self.derivation.context)?;
-        wrong_step(&mut context, term, self.proof, 0, dialect)
     }
 }
 
@@ -288,96 +264,4 @@ fn first_unfit(
         }
     }
     Ok(None)
-}
-
-/// The index of the first step that differs from the one in the other list, or `None` if both lists are the same.
-fn first_other(steps: &[Step], others: &[Step]) -> Option<usize>
-    ensures { MatchOption result (map step_of steps.now ≡ map step_of others.now) (λ number. DifferFirst (map step_of steps.now) (map step_of others.now) number) }
-{
-    let both = steps.len().min(others.len());
-    for i in 0..both {
-        let step = &steps[i];
-        let other = &others[i];
-        if !is_same(step, other) {
-            return Some(i);
-        }
-    }
-    if steps.len() == others.len() {
-        return None;
-    }
-    Some(both)
-}
-
-/// Whether two steps are equal.
-fn is_same(left: &Step, right: &Step) -> bool
-    ensures { IsTrue result ↔ (step_of left.now ≡ step_of right.now) }
-{
-    match left {
-        Step::Typing {
-            rule,
-            span,
-            ty,
-            premises,
-        } => is_typing(right, *rule, *span, ty, premises),
-        Step::Sub {
-            rule,
-            lower,
-            upper,
-            premises,
-        } => is_subtyping(right, *rule, lower, upper, premises),
-    }
-}
-
-fn is_typing(step: &Step, rule: TypeRule, span: Span, ty: &Ty, premises: &[usize]) -> bool
-    ensures { IsTrue result ↔ (record { conclusion = typing rule span (typ_of ty.now); premises = premises.now } ≡ step_of step.now) }
-{
-    let Step::Typing {
-        rule: own_rule,
-        span: own_span,
-        ty: own_ty,
-        premises: own_premises,
-    } = step
-    else {
-        return false;
-    };
-    if rule != *own_rule {
-        return false;
-    }
-    if span != *own_span {
-        return false;
-    }
-    if !same(ty, own_ty) {
-        return false;
-    }
-    are_equal(premises, own_premises)
-}
-
-fn is_subtyping(step: &Step, rule: SubRule, lower: &Ty, upper: &Ty, premises: &[usize]) -> bool
-    ensures { IsTrue result ↔ (record { conclusion = subtyping rule (typ_of lower.now) (typ_of upper.now); premises = premises.now } ≡ step_of step.now) }
-{
-    let Step::Sub {
-        rule: own_rule,
-        lower: own_lower,
-        upper: own_upper,
-        premises: own_premises,
-    } = step
-    else {
-        return false;
-    };
-    if rule != *own_rule {
-        return false;
-    }
-    if !same(lower, own_lower) {
-        return false;
-    }
-    if !same(upper, own_upper) {
-        return false;
-    }
-    are_equal(premises, own_premises)
-}
-
-fn are_equal(left: &[usize], right: &[usize]) -> bool
-    ensures { IsTrue result ↔ (left.now ≡ right.now) }
-{
-    left == right
 }

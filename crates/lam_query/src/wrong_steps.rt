@@ -1,184 +1,233 @@
-//! The first step of a typing proof that does not follow by its rule.
-ghost use Rattle.std.specs.Prelude.{◌≡◌, ◌+◌, ◌<◌, ◌^◌, ◌∷◌, [], IfOk, OnOk, MatchOption, length, slice_get, take};
-ghost use Rattle.std.specs.Option.{option_map};
-ghost use Rattle.lam_rules.specs.SubViews.{sub_tree_of, sub_trees_of};
-ghost use Rattle.lam_rules.specs.TermViews.{term_of, terms_of, written_of};
-ghost use Rattle.lam_rules.specs.Typing.{Context, IsTyping};
-ghost use Rattle.lam_rules.specs.TypingViews.{context_of, typing_tree_of, typings_of};
-ghost use Rattle.lam_query.specs.Judgements.{AllFollow, IsFirstFailing, about, fields_in, first_type, judgements, judgements_each, parts_in, side_judgements, side_steps_in, steps_in, steps_in_each, sub_judgements, sub_judgements_each, sub_steps_in, sub_steps_in_each, subjects};
+//! The first step of a derivation that does not follow by its rule.
+//!
+//! Each step is checked by itself, from the last one down: it tells what its premises are about, these tell the same of theirs, and
+//! so on. No tree is built and nothing recurses, so that steps may follow from each other on any number of levels.
+ghost use Rattle.std.specs.Prelude.{◌≡◌, ◌≤◌, ◌↔◌, ◌∷◌, ◌++◌, List, [], Option, Some, IsTrue, IfOk, OnOk, MatchOption, length, map, option_map, replicate, slice_get, take};
+ghost use Rattle.lam_token.specs.declared.span.Span.{Span};
+ghost use Rattle.lam_rules.specs.Parts.{subject_in};
+ghost use Rattle.lam_rules.specs.SubViews.{claim_of, claims_of};
+ghost use Rattle.lam_rules.specs.TermViews.{lent_of, term_of, written_of};
+ghost use Rattle.lam_rules.specs.Types.{IsWellFormed, Typ};
+ghost use Rattle.lam_rules.specs.TypeViews.{typ_of};
+ghost use Rattle.lam_rules.specs.Terms.{Term};
+ghost use Rattle.lam_rules.specs.Typing.{Context, IsWellFormedContext, IsWellFormedEntry, TypingTree};
+ghost use Rattle.lam_rules.specs.TypingSteps.{FitsRule, IsTypingStep, about, subjects};
+ghost use Rattle.lam_rules.specs.TypingViews.{context_of, types_concluded, typing_tree_of};
+ghost use Rattle.lam_rules.specs.declared.rules.Dialect.{Dialect};
+ghost use Rattle.lam_rules.specs.declared.rules.TypeRule.{TypeRule as Rule};
+ghost use Rattle.lam_rules.specs.declared.types.Ty.{Ty as RustTy};
+ghost use Rattle.lam_query.specs.FirstFaults.{MakeTree};
+ghost use Rattle.lam_query.specs.Judgements.{AllFollow, IsFirstFailing, judgements};
+ghost use Rattle.lam_query.specs.Steps.{typing};
+ghost use Rattle.lam_query.specs.Views.{step_of};
+ghost use Rattle.lam_query.specs.inner.Walking.{AreKnown, IsKnown, IsRight, IsTop, claims_said, first_said, last_claim, left_for, left_of, lefts_for, lefts_under, of_subtypes, said_at, said_by, types_said, typing_of};
 
+use crate::answers::Step;
+use crate::steps::{premises_of, step_at};
 use lam_rules::{
-    Core, Dialect, SubProof, Ty, TypeProof, TypeRule, check_sub_step, check_type, copy_of,
+    Core, Dialect, Part, SubProof, Ty, TypeProof, TypeRule, check_sub_step, check_type_step,
+    copy_of, part_of, wf, wf_context,
 };
-use std::alloc::AllocError;
+use std::alloc::{AllocError, Global};
 
-/// Returns the index of the first step that does not follow by its rule, in a proof that is not valid for the term. The steps are
-/// counted from `start`. Nothing is promised of the context on return.
-#[cycle(wrong_step)]
-pub(crate) fn wrong_step(
-    context: &mut Vec<Option<Ty>>,
-    term: &Core,
-    proof: &TypeProof,
-    start: usize,
-    dialect: Dialect,
-) -> Result<usize, AllocError>
-    requires wrong { IsTyping (context_of context.old.items) (term_of term.now) (typing_tree_of proof.now) dialect → ⊥ }
-    requires room { start + steps_in (typing_tree_of proof.now) < 2 ^ 64 }
-    ensures { IfOk result (λ number. IsFirstFailing dialect start (judgements (context_of context.old.items) (term_of term.now) (typing_tree_of proof.now)) number) }
-{
-    let found = wrong_premise(context, term, proof.rule, &proof.typing, start, dialect)?;
-    if let Some(number) = found {
-        return Ok(number);
-    }
-    let next = start + steps_in_each(&proof.typing);
-    match wrong_side(&proof.sub, next, dialect) {
-        Some(number) => Ok(number),
-        None => Ok(next + side_steps_in(&proof.sub)),
-    }
+/// A part of a term, in the context of the first `depth` entries. `sound`: whether the types of these have distinct labels.
+#[derive(Clone, Copy)]
+struct Seen<'a> {
+    depth: usize,
+    sound: bool,
+    part: Part<'a>,
 }
 
-/// The same for the proofs of the premises of a step by this rule about the term; `None` if they are valid.
-#[cycle(wrong_step)]
-fn wrong_premise(
-    context: &mut Vec<Option<Ty>>,
-    term: &Core,
+/// What a proof is about whose steps are still to be checked.
+#[derive(Clone, Copy)]
+enum Pending<'a> {
+    Typing(Seen<'a>),
+    /// No part of a term. Nothing is asked of its steps.
+    Nothing,
+    Subtyping,
+}
+
+/// The proofs that are still to be checked, the last one on top, and the entries of the context of the step checked last.
+#[derive(Drop)]
+struct State<'a> {
+    entries: Vec<Option<Ty>>,
+    pending: Vec<Pending<'a>>,
+}
+
+/// The term that a step of typing is about, its rule, and the type that its first premise concludes. `depth` is the number of
+/// entries of its context, `sound` whether their types have distinct labels.
+#[derive(Clone, Copy)]
+struct Parent<'a> {
+    depth: usize,
+    sound: bool,
     rule: TypeRule,
-    premises: &[TypeProof],
-    start: usize,
+    term: &'a Core,
+    first: Option<&'a Ty>,
+}
+
+/// Premises of a step, without theirs.
+#[derive(Drop)]
+struct Premises {
+    typings: Vec<TypeProof>,
+    subs: Vec<SubProof>,
+}
+
+/// Returns the index of the first step that does not follow by its rule in a proof of typing about this term, in the context of
+/// these entries, or `None` if each does.
+pub(crate) fn first_wrong(
+    alloc: Global,
+    entries: Vec<Option<Ty>>,
+    term: &Core,
+    steps: &[Step],
     dialect: Dialect,
 ) -> Result<Option<usize>, AllocError>
-    requires room { start + steps_in_each (typings_of premises.now) < 2 ^ 64 }
-    ensures { IfOk result (λ found. let all = judgements_each (subjects rule (context_of context.old.items) (term_of term.now) (typings_of premises.now)) (typings_of premises.now) in
-        MatchOption found (AllFollow dialect all) (λ number. IsFirstFailing dialect start all number)) }
+    ensures { IfOk result (λ found. (tree : TypingTree) → MakeTree (map step_of steps.now) tree
+        → let all = judgements (context_of entries.items) (term_of term.now) tree in
+        MatchOption found (AllFollow dialect all) (λ number. IsFirstFailing dialect 0 all number)) }
 {
-    let depth = context.len();
-    let mut at = start;
-    for k in 0..premises.len() {
-        let premise = &premises[k];
-        let Some(part) = enter(context, term, rule, premises, k)? else {
-            // No later premise is about a part either.
-            return Ok(None);
+    let seen = Seen {
+        depth: entries.len(),
+        sound: wf_context(&entries),
+        part: Part::Plain(term),
+    };
+    let mut state = State {
+        entries,
+        pending: Vec::new(alloc),
+    };
+    state.pending.push(Pending::Typing(seen))?;
+    let mut wrong = None;
+    for back in 0..steps.len() {
+        let number = steps.len() - 1 - back;
+        let Some(own) = state.pending.pop() else {
+            return Ok(wrong);
         };
-        if !check_type(context, part, premise, dialect) {
-            let number = wrong_step(context, part, premise, at, dialect)?;
-            return Ok(Some(number));
+        let step = &steps[number];
+        if !is_right(alloc, &mut state, own, step, steps, dialect)? {
+            wrong = Some(number);
         }
-        context.truncate(depth);
-        at += steps_in(premise);
     }
-    Ok(None)
+    Ok(wrong)
 }
 
-/// Returns the part of the term that premise `k` of a step by this rule is about, if there is one, and adds the context entry of
-/// the binder around it, if there is one.
-fn enter<'t>(
-    context: &mut Vec<Option<Ty>>,
-    term: &'t Core,
-    rule: TypeRule,
-    premises: &[TypeProof],
-    k: usize,
-) -> Result<Option<&'t Core>, AllocError>
-    ensures subject { IfOk result (λ part. option_map (λ t. about (context_of context.new.items) (term_of t.now)) part
-        ≡ slice_get (subjects rule (context_of context.old.items) (term_of term.now) (typings_of premises.now)) k) }
-    ensures outer { IfOk result (λ _. take (length context.old.items) context.new.items ≡ context.old.items) }
+/// Whether a step follows by its rule. Its premises are put on the stack in its place.
+fn is_right<'a>(
+    alloc: Global,
+    state: &mut State<'a>,
+    own: Pending<'a>,
+    step: &'a Step,
+    steps: &'a [Step],
+    dialect: Dialect,
+) -> Result<bool, AllocError>
+    requires known { AreKnown state.old.entries.items (state.old.pending.items ++ own ∷ []) }
+    ensures known { OnOk result (AreKnown state.new.entries.items state.new.pending.items) }
+    ensures left { OnOk result (map (left_of state.new.entries.items) state.new.pending.items
+        ≡ map (left_of state.old.entries.items) state.old.pending.items
+        ++ lefts_under (left_of state.old.entries.items own.entry) (step_of step.now).conclusion (map (said_at (map step_of steps.now)) (step_of step.now).premises)) }
+    ensures right { IfOk result (λ right. IsTrue right
+        ↔ IsRight dialect (left_of state.old.entries.items own.entry) (step_of step.now).conclusion (map (said_at (map step_of steps.now)) (step_of step.now).premises)) }
 {
-    match rule {
-        TypeRule::Sub => Ok(only(term, k)),
-        _ => enter_part(context, term, premises, k),
-    }
-}
-
-/// The same for all rules except T-Sub.
-#[tactic(auto, using(lam_rules::proofs::TermShapes::term_shapes))]
-fn enter_part<'t>(
-    context: &mut Vec<Option<Ty>>,
-    term: &'t Core,
-    premises: &[TypeProof],
-    k: usize,
-) -> Result<Option<&'t Core>, AllocError>
-    ensures subject { IfOk result (λ part. option_map (λ t. about (context_of context.new.items) (term_of t.now)) part
-        ≡ slice_get (parts_in (context_of context.old.items) (term_of term.now) (typings_of premises.now)) k) }
-    ensures outer { IfOk result (λ _. take (length context.old.items) context.new.items ≡ context.old.items) }
-{
-    match term {
-        Core::If(parts) => Ok(of_three(&parts.0, &parts.1, &parts.2, k)),
-        Core::Succ(part) => Ok(only(part, k)),
-        Core::Pred(part) => Ok(only(part, k)),
-        Core::IsZero(part) => Ok(only(part, k)),
-        Core::Abs(parts) => {
-            push_entry(context, copy_of_entry(&parts.0)?)?;
-            Ok(only(&parts.1, k))
+    let premises = premises_of(step);
+    match own {
+        Pending::Nothing => {
+            push_each(&mut state.pending, Pending::Nothing, premises.len())?;
+            Ok(true)
         }
-        Core::App(parts) => Ok(of_two(&parts.0, &parts.1, k)),
-        Core::Ascribe(parts) => Ok(only(&parts.0, k)),
-        Core::Let(parts) => {
-            if k == 0 {
-                return Ok(Some(&parts.0));
-            }
-            push_entry(context, first_type(premises)?)?;
-            Ok(only(&parts.1, k - 1))
+        Pending::Subtyping => {
+            push_each(&mut state.pending, Pending::Subtyping, premises.len())?;
+            is_right_sub(alloc, step, premises, steps, dialect)
         }
-        Core::Record(fields) => Ok(of_fields(fields, k)),
-        Core::Proj(parts) => Ok(only(&parts.0, k)),
-        Core::Fix(part) => Ok(only(part, k)),
-        Core::True => Ok(None),
-        Core::False => Ok(None),
-        Core::Num(_) => Ok(None),
-        Core::Var(_) => Ok(None),
-        Core::Free(_) => Ok(None),
-        Core::Unit => Ok(None),
+        Pending::Typing(seen) => is_right_typing(alloc, state, seen, step, premises, steps),
     }
 }
 
-fn only(part: &Core, k: usize) -> Option<&Core>
-    ensures { (g : Context) → option_map (λ t. about g (term_of t.now)) result ≡ slice_get (about g (term_of part.now) ∷ []) k }
+/// Puts this on the stack so many times.
+fn push_each<'a>(
+    pending: &mut Vec<Pending<'a>>,
+    each: Pending<'a>,
+    count: usize,
+) -> Result<(), AllocError>
+    ensures { OnOk result (pending.new.items ≡ pending.old.items ++ replicate count each.entry) }
 {
-    if k == 0 {
-        return Some(part);
+    for _ in 0..count {
+        pending.push(each)?;
     }
-    None
-}
-
-fn of_two<'t>(first: &'t Core, second: &'t Core, k: usize) -> Option<&'t Core>
-    ensures { (g : Context) → option_map (λ t. about g (term_of t.now)) result
-        ≡ slice_get (about g (term_of first.now) ∷ about g (term_of second.now) ∷ []) k }
-{
-    if k == 0 {
-        return Some(first);
-    }
-    only(second, k - 1)
-}
-
-fn of_three<'t>(first: &'t Core, second: &'t Core, third: &'t Core, k: usize) -> Option<&'t Core>
-    ensures { (g : Context) → option_map (λ t. about g (term_of t.now)) result
-        ≡ slice_get (about g (term_of first.now) ∷ about g (term_of second.now) ∷ about g (term_of third.now) ∷ []) k }
-{
-    if k == 0 {
-        return Some(first);
-    }
-    of_two(second, third, k - 1)
-}
-
-fn of_fields(fields: &[(String, Core)], k: usize) -> Option<&Core>
-    ensures { (g : Context) → option_map (λ t. about g (term_of t.now)) result ≡ slice_get (fields_in g (terms_of fields.now)) k }
-{
-    match fields.get(k) {
-        Some(field) => Some(&field.1),
-        None => None,
-    }
-}
-
-fn push_entry(context: &mut Vec<Option<Ty>>, entry: Option<Ty>) -> Result<(), AllocError>
-    ensures context { OnOk result (context_of context.new.items ≡ written_of entry ∷ context_of context.old.items) }
-    ensures outer { OnOk result (take (length context.old.items) context.new.items ≡ context.old.items) }
-{
-    context.push(entry)?;
     Ok(())
 }
 
+/// Whether a step of typing follows by its rule for this part. What its premises are about is put on the stack.
+fn is_right_typing<'a>(
+    alloc: Global,
+    state: &mut State<'a>,
+    seen: Seen<'a>,
+    step: &'a Step,
+    premises: &'a [usize],
+    steps: &'a [Step],
+) -> Result<bool, AllocError>
+    requires known { AreKnown state.old.entries.items (state.old.pending.items ++ typing_of seen ∷ []) }
+    ensures known { OnOk result (AreKnown state.new.entries.items state.new.pending.items) }
+    ensures left { OnOk result (map (left_of state.new.entries.items) state.new.pending.items
+        ≡ map (left_of state.old.entries.items) state.old.pending.items
+        ++ lefts_under (left_of state.old.entries.items (typing_of seen.entry)) (step_of step.now).conclusion (map (said_at (map step_of steps.now)) premises.now)) }
+    ensures right { IfOk result (λ right. (d : Dialect) → IsTrue right
+        ↔ IsRight d (left_of state.old.entries.items (typing_of seen.entry)) (step_of step.now).conclusion (map (said_at (map step_of steps.now)) premises.now)) }
+{
+    let Step::Typing { rule, ty, .. } = step else {
+        push_each(&mut state.pending, Pending::Nothing, premises.len())?;
+        return Ok(true);
+    };
+    let (term, sound) = enter(&mut state.entries, seen)?;
+    let parent = Parent {
+        depth: state.entries.len(),
+        sound,
+        rule: *rule,
+        term,
+        first: first_type(premises, steps),
+    };
+    push_premises(&mut state.pending, parent, premises, steps)?;
+    if !sound {
+        return Ok(false);
+    }
+    follows(alloc, &state.entries, term, *rule, ty, premises, steps)
+}
+
+/// Whether a step of typing follows by this rule from the conclusions of its premises.
+fn follows(
+    alloc: Global,
+    entries: &[Option<Ty>],
+    term: &Core,
+    rule: TypeRule,
+    ty: &Ty,
+    premises: &[usize],
+    steps: &[Step],
+) -> Result<bool, AllocError>
+    ensures { IfOk result (λ right. let said = map (said_at (map step_of steps.now)) premises.now in
+        IsTrue right ↔ (IsWellFormed (typ_of ty.now) × FitsRule rule (last_claim (claims_said said)) (context_of entries.now) (term_of term.now) (typ_of ty.now) (types_said said))) }
+{
+    let proof = bare_typing(alloc, rule, ty, premises, steps)?;
+    Ok(check_type_step(entries, term, &proof))
+}
+
+/// Makes the entries those of the context of this part; returns its term, and whether their types have distinct labels.
+fn enter<'a>(entries: &mut Vec<Option<Ty>>, seen: Seen<'a>) -> Result<(&'a Core, bool), AllocError>
+    requires { seen.depth ≤ length entries.old.items }
+    ensures subject { IfOk result (λ inside. about (context_of entries.new.items) (term_of inside.0.now) ≡ subject_in (context_of (take seen.entry.depth entries.old.items)) seen.entry.part) }
+    ensures sound { IfOk result (λ inside. (IsTrue seen.entry.sound ↔ IsWellFormedContext (context_of (take seen.entry.depth entries.old.items)))
+        → (IsTrue inside.1 ↔ IsWellFormedContext (context_of entries.new.items))) }
+    ensures outside { OnOk result ((seen.entry.depth ≤ length entries.new.items) × (take seen.entry.depth entries.new.items ≡ take seen.entry.depth entries.old.items)) }
+{
+    entries.truncate(seen.depth);
+    match seen.part {
+        Part::Plain(term) => Ok((term, seen.sound)),
+        Part::Under(entry, term) => {
+            entries.push(copy_of_entry(entry)?)?;
+            Ok((term, are_sound(seen.sound, entry)))
+        }
+    }
+}
+
 /// Returns a copy of a context entry.
-pub(crate) fn copy_of_entry(entry: &Option<Ty>) -> Result<Option<Ty>, AllocError>
-    ensures { IfOk result (λ made. written_of made ≡ written_of entry.now) }
+pub(crate) fn copy_of_entry(entry: Option<&Ty>) -> Result<Option<Ty>, AllocError>
+    ensures { IfOk result (λ made. written_of made ≡ lent_of entry.entry) }
 {
     match entry {
         Some(ty) => Ok(Some(copy_of(ty)?)),
@@ -186,111 +235,198 @@ pub(crate) fn copy_of_entry(entry: &Option<Ty>) -> Result<Option<Ty>, AllocError
     }
 }
 
-/// The type that the first premise concludes.
-#[tactic(auto, using(lam_rules::proofs::TypingShapes::typing_shapes))]
-fn first_type(premises: &[TypeProof]) -> Result<Option<Ty>, AllocError>
-    ensures { IfOk result (λ made. written_of made ≡ first_type (typings_of premises.now)) }
+/// Whether the types of a context have distinct labels, if it is known of the entries outside this one.
+fn are_sound(outside: bool, entry: Option<&Ty>) -> bool
+    ensures { IsTrue result ↔ (IsWellFormedEntry (lent_of entry.entry) × IsTrue outside) }
 {
-    match premises.first() {
-        Some(first) => Ok(Some(copy_of(&first.ty)?)),
-        None => Ok(None),
+    if !outside {
+        return false;
+    }
+    match entry {
+        Some(ty) => wf(ty),
+        None => true,
     }
 }
 
-/// The index of the first step of the subtyping premise, if there is one, that does not follow; `None` if it is valid.
-fn wrong_side(side: &Option<Box<SubProof>>, start: usize, dialect: Dialect) -> Option<usize>
-    requires room { start + side_steps_in (option_map (λ q. sub_tree_of q.value) side.now) < 2 ^ 64 }
-    ensures { let all = side_judgements (option_map (λ q. sub_tree_of q.value) side.now) in
-        MatchOption result (AllFollow dialect all) (λ number. IsFirstFailing dialect start all number) }
+/// The type that the first premise concludes.
+fn first_type<'a>(premises: &[usize], steps: &'a [Step]) -> Option<&'a Ty>
+    ensures { lent_of result ≡ first_said (map (said_at (map step_of steps.now)) premises.now) }
 {
-    match side {
-        Some(proof) => wrong_sub_step(proof, start, dialect),
+    match premises.first() {
+        Some(number) => type_in(step_at(steps, *number)),
         None => None,
     }
 }
 
-#[cycle(wrong_sub_step)]
-fn wrong_sub_step(proof: &SubProof, start: usize, dialect: Dialect) -> Option<usize>
-    requires room { start + sub_steps_in (sub_tree_of proof.now) < 2 ^ 64 }
-    ensures { let all = sub_judgements (sub_tree_of proof.now) in
-        MatchOption result (AllFollow dialect all) (λ number. IsFirstFailing dialect start all number) }
+/// The type that a step of typing concludes.
+fn type_in<'a>(step: Option<&'a Step>) -> Option<&'a Ty>
+    ensures { lent_of result ≡ first_said (said_by step.entry ∷ []) }
 {
-    if let Some(number) = wrong_sub_premise(&proof.premises, start, dialect) {
-        return Some(number);
+    match step {
+        Some(Step::Typing { ty, .. }) => Some(ty),
+        Some(Step::Sub { .. }) => None,
+        None => None,
     }
-    if check_sub_step(proof, dialect) {
-        return None;
-    }
-    Some(start + sub_steps_in_each(&proof.premises))
 }
 
-#[cycle(wrong_sub_step)]
-fn wrong_sub_premise(premises: &[SubProof], start: usize, dialect: Dialect) -> Option<usize>
-    requires room { start + sub_steps_in_each (sub_trees_of premises.now) < 2 ^ 64 }
-    ensures { let all = sub_judgements_each (sub_trees_of premises.now) in
-        MatchOption result (AllFollow dialect all) (λ number. IsFirstFailing dialect start all number) }
+/// Puts what the premises of a step of typing are about on the stack, in their order.
+fn push_premises<'a>(
+    pending: &mut Vec<Pending<'a>>,
+    parent: Parent<'a>,
+    premises: &'a [usize],
+    steps: &'a [Step],
+) -> Result<(), AllocError>
+    ensures left { OnOk result ((g : List (Option RustTy)) → length g ≡ parent.entry.depth → map (left_of g) pending.new.items
+        ≡ map (left_of g) pending.old.items
+        ++ lefts_for (subjects parent.entry.rule (context_of g) (term_of parent.entry.term.now) (lent_of parent.entry.first)) (map (said_at (map step_of steps.now)) premises.now)) }
+    ensures known { OnOk result ((g : List (Option RustTy)) → length g ≡ parent.entry.depth → (IsTrue parent.entry.sound ↔ IsWellFormedContext (context_of g))
+        → AreKnown g pending.old.items → AreKnown g pending.new.items) }
 {
-    let mut at = start;
-    for premise in premises {
-        if let Some(number) = wrong_sub_step(premise, at, dialect) {
-            return Some(number);
+    for k in 0..premises.len() {
+        pending.push(premise_of(parent, k, step_at(steps, premises[k])))?;
+    }
+    Ok(())
+}
+
+/// What premise `k` is about that this step concludes.
+fn premise_of<'a>(parent: Parent<'a>, k: usize, step: Option<&'a Step>) -> Pending<'a>
+    ensures left { (g : List (Option RustTy)) → length g ≡ parent.entry.depth
+        → left_of g result ≡ left_for (slice_get (subjects parent.entry.rule (context_of g) (term_of parent.entry.term.now) (lent_of parent.entry.first)) k) (said_by step.entry) }
+    ensures known { (g : List (Option RustTy)) → length g ≡ parent.entry.depth → (IsTrue parent.entry.sound ↔ IsWellFormedContext (context_of g)) → IsKnown g result × IsTop g result }
+{
+    match step {
+        Some(Step::Typing { .. }) => typing_premise(parent, k),
+        Some(Step::Sub { .. }) => Pending::Subtyping,
+        None => Pending::Nothing,
+    }
+}
+
+/// The same for a premise of typing.
+fn typing_premise<'a>(parent: Parent<'a>, k: usize) -> Pending<'a>
+    ensures left { (g : List (Option RustTy)) (rule : Rule) (span : Span) (t : Typ) → length g ≡ parent.entry.depth
+        → left_of g result ≡ left_for (slice_get (subjects parent.entry.rule (context_of g) (term_of parent.entry.term.now) (lent_of parent.entry.first)) k) (Some (typing rule span t)) }
+    ensures known { (g : List (Option RustTy)) → length g ≡ parent.entry.depth → (IsTrue parent.entry.sound ↔ IsWellFormedContext (context_of g)) → IsKnown g result × IsTop g result }
+{
+    match part_of(parent.rule, parent.term, parent.first, k) {
+        Some(part) => Pending::Typing(Seen {
+            depth: parent.depth,
+            sound: parent.sound,
+            part,
+        }),
+        None => Pending::Nothing,
+    }
+}
+
+/// Makes the last step of a proof of typing. Its premises have none of their own.
+fn bare_typing(
+    alloc: Global,
+    rule: TypeRule,
+    ty: &Ty,
+    premises: &[usize],
+    steps: &[Step],
+) -> Result<TypeProof, AllocError>
+    ensures { IfOk result (λ made. (g : Context) (e : Term) → let said = map (said_at (map step_of steps.now)) premises.now in
+        IsTypingStep g e (typing_tree_of made) ↔ (IsWellFormed (typ_of ty.now) × FitsRule rule (last_claim (claims_said said)) g e (typ_of ty.now) (types_said said))) }
+{
+    let Premises { typings, subs } = bare_premises(alloc, premises, steps)?;
+    let sub = last_of(alloc, subs)?;
+    let ty = copy_of(ty)?;
+    Ok(TypeProof {
+        rule,
+        ty,
+        typing: typings,
+        sub,
+    })
+}
+
+/// The last of these.
+fn last_of(alloc: Global, mut subs: Vec<SubProof>) -> Result<Option<Box<SubProof>>, AllocError>
+    ensures { IfOk result (λ last. option_map (λ q. claim_of q.value) last ≡ last_claim (claims_of subs.items)) }
+{
+    match subs.pop() {
+        Some(proof) => Ok(Some(Box::new(alloc, proof)?)),
+        None => Ok(None),
+    }
+}
+
+/// Whether a step of subtyping follows by its rule.
+fn is_right_sub(
+    alloc: Global,
+    step: &Step,
+    premises: &[usize],
+    steps: &[Step],
+    dialect: Dialect,
+) -> Result<bool, AllocError>
+    ensures { IfOk result (λ right. IsTrue right ↔ IsRight dialect of_subtypes (step_of step.now).conclusion (map (said_at (map step_of steps.now)) premises.now)) }
+{
+    match step {
+        Step::Typing { .. } => Ok(true),
+        Step::Sub {
+            rule,
+            lower,
+            upper,
+            ..
+        } => {
+            let Premises { subs, .. } = bare_premises(alloc, premises, steps)?;
+            let lower = copy_of(lower)?;
+            let upper = copy_of(upper)?;
+            let proof = SubProof {
+                rule: *rule,
+                lower,
+                upper,
+                premises: subs,
+            };
+            Ok(check_sub_step(&proof, dialect))
         }
-        at += sub_steps_in(premise);
-    }
-    None
-}
-
-/// The number of steps of a proof.
-#[cycle(steps_in)]
-#[tactic(auto, using(lam_rules::proofs::TypingShapes::typing_nodes))]
-fn steps_in(proof: &TypeProof) -> usize
-    requires { steps_in (typing_tree_of proof.now) < 2 ^ 64 }
-    ensures { result ≡ steps_in (typing_tree_of proof.now) }
-{
-    steps_in_each(&proof.typing) + side_steps_in(&proof.sub) + 1
-}
-
-#[cycle(steps_in)]
-#[tactic(auto, using(lam_rules::proofs::TypingShapes::typing_shapes))]
-fn steps_in_each(proofs: &[TypeProof]) -> usize
-    requires { steps_in_each (typings_of proofs.now) < 2 ^ 64 }
-    ensures { result ≡ steps_in_each (typings_of proofs.now) }
-{
-    let mut count = 0;
-    for proof in proofs {
-        count += steps_in(proof);
-    }
-    count
-}
-
-fn side_steps_in(side: &Option<Box<SubProof>>) -> usize
-    requires { side_steps_in (option_map (λ q. sub_tree_of q.value) side.now) < 2 ^ 64 }
-    ensures { result ≡ side_steps_in (option_map (λ q. sub_tree_of q.value) side.now) }
-{
-    match side {
-        Some(proof) => sub_steps_in(proof),
-        None => 0,
     }
 }
 
-#[cycle(sub_steps_in)]
-#[tactic(auto, using(lam_rules::proofs::SubShapes::sub_nodes))]
-fn sub_steps_in(proof: &SubProof) -> usize
-    requires { sub_steps_in (sub_tree_of proof.now) < 2 ^ 64 }
-    ensures { result ≡ sub_steps_in (sub_tree_of proof.now) }
+/// Makes proofs of what premises conclude, each without premises of its own.
+fn bare_premises(alloc: Global, premises: &[usize], steps: &[Step]) -> Result<Premises, AllocError>
+    ensures types { IfOk result (λ made. types_concluded made.typings.items ≡ types_said (map (said_at (map step_of steps.now)) premises.now)) }
+    ensures claims { IfOk result (λ made. claims_of made.subs.items ≡ claims_said (map (said_at (map step_of steps.now)) premises.now)) }
 {
-    sub_steps_in_each(&proof.premises) + 1
+    let mut made = Premises {
+        typings: Vec::new(alloc),
+        subs: Vec::new(alloc),
+    };
+    for number in premises {
+        add_bare(alloc, &mut made, step_at(steps, *number))?;
+    }
+    Ok(made)
 }
 
-#[cycle(sub_steps_in)]
-#[tactic(auto, using(lam_rules::proofs::SubShapes::sub_nodes))]
-fn sub_steps_in_each(proofs: &[SubProof]) -> usize
-    requires { sub_steps_in_each (sub_trees_of proofs.now) < 2 ^ 64 }
-    ensures { result ≡ sub_steps_in_each (sub_trees_of proofs.now) }
+/// Adds what this step concludes, without its premises.
+fn add_bare(alloc: Global, made: &mut Premises, step: Option<&Step>) -> Result<(), AllocError>
+    ensures types { OnOk result (types_concluded made.new.typings.items ≡ types_concluded made.old.typings.items ++ types_said (said_by step.entry ∷ [])) }
+    ensures claims { OnOk result (claims_of made.new.subs.items ≡ claims_of made.old.subs.items ++ claims_said (said_by step.entry ∷ [])) }
 {
-    let mut count = 0;
-    for proof in proofs {
-        count += sub_steps_in(proof);
+    match step {
+        Some(Step::Typing { rule, ty, .. }) => {
+            made.typings.push(TypeProof {
+                rule: *rule,
+                ty: copy_of(ty)?,
+                typing: Vec::new(alloc),
+                sub: None,
+            })?;
+            Ok(())
+        }
+        Some(
+            Step::Sub {
+                rule,
+                lower,
+                upper,
+                ..
+            },
+        ) => {
+            made.subs.push(SubProof {
+                rule: *rule,
+                lower: copy_of(lower)?,
+                upper: copy_of(upper)?,
+                premises: Vec::new(alloc),
+            })?;
+            Ok(())
+        }
+        None => Ok(()),
     }
-    count
 }

@@ -2,14 +2,12 @@
 use Rattle.std.specs.Prelude.{◌≡◌, ◌<◌, ℕ, List, length, get_or, map, take, Option, Some, None}
 use Rattle.std.specs.List.{AllZip}
 use Rattle.lam_rules.specs.TermViews.{written_of}
-use Rattle.lam_rules.specs.TypingViews.{typing_tree_of}
 use Rattle.lam_rules.specs.declared.rules.Dialect.{Dialect}
 use Rattle.lam_syntax.specs.Trees.{CommandTree}
 use Rattle.lam_scope.specs.PlacedTerms.{PlacedTree, document_terms}
 use Rattle.lam_scope.specs.Views.{AreScopesOf}
 use Rattle.lam_query.specs.Derivations.{Derivation}
-use Rattle.lam_query.specs.FirstFaults.{IsFaultAt, IsFaultIn, MakeTree}
-use Rattle.lam_query.specs.Levels.{AreTooDeep}
+use Rattle.lam_query.specs.FirstFaults.{AreOfOneProof, IsFaultAt, IsFaultIn}
 use Rattle.lam_query.specs.Verified.{IsProofAt, IsProofOf}
 use Rattle.lam_query.specs.declared.answers.FirstFault.{FirstFault}
 use Rattle.lam_query.specs.Views.{derivation_of}
@@ -22,11 +20,10 @@ pub record IsTextOf (commands : List CommandTree) (text : TypedText) : Type 0 wh
   pub are_scopes : AreScopesOf text.scopes commands
   pub are_types : AreTypesOf commands text.types text.dialect
 
--- The types are those of the context, and the proof is the one that the steps make, on at most 16,384 levels.
+-- The types are those of the context, and the steps are those of one proof of typing.
 pub record IsClaim (claim : Claim) : Type 0 where
-  pub not_deep : AreTooDeep (derivation_of claim.derivation.now).steps → ⊥
   pub types : map written_of claim.entries.now ≡ map (λ e. e.type) (derivation_of claim.derivation.now).context
-  pub tree : MakeTree (derivation_of claim.derivation.now).steps (typing_tree_of claim.proof.now)
+  pub one : AreOfOneProof (derivation_of claim.derivation.now).steps
 
 -- The derivation is about one of the terms of these commands.
 pub record IsOfSomeTerm (commands : List CommandTree) (derivation : Derivation) (d : Dialect) : Type 0 where

@@ -29,8 +29,8 @@ returns-in-None c =
     let value = view c.args.value.now in
     let x = derivation_of c.in-Ok.derivation in
     let read = in_text (λ e t. (value ≡ derivation_value e t (Some x)) × IsReadable t x) c.in_ok-doc.ensures.encoding c.in_ok-doc.ensures.text (c.in-Ok.ensures.read, c.in-Ok.ensures.readable) in
-    let sound = rw c.in-None.is at c.in_ok-first_fault.ensures in
-    let proof : IsProof text value c.args.dialect = (record { derivation = x; is_value = read.0; verified = sound.0; not_deep = sound.1 }, read.1) in
+    let verified = rw c.in-None.is at c.in_ok-first_fault.ensures in
+    let proof : IsProof text value c.args.dialect = (record { derivation = x; is_value = read.0; verified = verified }, read.1) in
     record {
       accepted = none_counted text value c.args.dialect c.accepted.result proof c.accepted.ensures.count;
       report = accepted_report c.args.name.now text value c.args.dialect c.accepted.result proof c.accepted.ensures.count c.accepted.ensures.report;

@@ -1,6 +1,5 @@
 use Rattle.std.proofs.Common.{◌+◌, map, Some, ap, sym, subst, ◌∙◌, arith}
 use Rattle.std.proofs.lemmas.List.{length-map}
-use Rattle.lam_rules.specs.TypingViews.{typing_tree_of}
 use Rattle.lam_query.specs.Views.{derivation_of, step_of}
 use Rattle.lam_query.specs.FirstFaults.{HasRange, last_span}
 use Rattle.lam_query.specs.inner.Verifying.{IsResultIn}
@@ -38,7 +37,7 @@ returns c = λ commands is.
     let d = c.args.self.now.dialect in
     let size = as_many commands c.args.self.now.types.resolved is.are_types.statements in
     let long = length-map claim.derivation.now.steps.items step_of in
-    let last = last_counted x.steps (typing_tree_of claim.proof.now) c.saturating_sub-last.result c.requires.tree
+    let last = last_counted x.steps c.requires.one.tree c.saturating_sub-last.result c.requires.one.make
     (omega (arith, long, c.saturating_sub-last.ensures, c.len.ensures, claim.derivation.now.steps.ok.0)) in
     subst (λ r. IsResultIn commands x d (Some r)) (sym c.unwrap_or-2.ensures)
     (all_terms commands x d c.loop-i.i c.saturating_sub-last.result c.loop-i.first (omega (arith, size, c.loop-i-test.false, c.place_count-i-end.ensures)) last (c.loop-i.invariant commands is))
