@@ -4,9 +4,9 @@ use Rattle.std.specs.Option.{option_map}
 use Rattle.std.specs.declared.alloc.Global.{Global}
 use Rattle.lam_rules.specs.Types.{Typ, record_of, no_fields, field}
 use Rattle.lam_rules.specs.SubViews.{sub_tree_of}
-use Rattle.lam_rules.specs.Terms.{Term, true_term, false_term, if_then_else, numeral, succ, pred, is_zero, variable, lambda, apply, unit_term, ascribe, let_in, record_term, project, fix, no_terms, term_field}
+use Rattle.lam_rules.specs.Terms.{Term, true_term, false_term, if_then_else, numeral, succ, pred, is_zero, variable, lambda, apply, unit_term, ascribe, let_in, record_term, project, fix, TermFields, no_terms, term_field}
 use Rattle.lam_rules.specs.TermViews.{term_of, terms_of}
-use Rattle.lam_rules.specs.Subtyping.{SubTree, conclusion}
+use Rattle.lam_rules.specs.Subtyping.{Claim, SubTree, conclusion}
 use Rattle.lam_rules.specs.Typing.{Context, IsWellFormedContext, typing_step, TypingTrees, no_typings, typing_first, IsTyping, ByTypeRule}
 use Rattle.lam_rules.specs.TypingViews.{typing_tree_of, typings_of}
 use Rattle.lam_rules.specs.TypingSteps.{types_in, FitsRule, IsTypingStep, IsSideProof, Subject, about, fields_in, first_type, subjects, AreTypings}
@@ -82,6 +82,34 @@ pub typed_by_parts : (g : Context) (e : Term) (p : TypeProof) (d : Dialect)
     × IsSideProof (option_map (λ q. sub_tree_of q.value) (out-TypeProof p).sub) d
     × AreTypings (subjects (out-TypeProof p).rule g e (first_type (typings_of (out-TypeProof p).typing.items))) (typings_of (out-TypeProof p).typing.items) d)
 typed_by_parts g e p d = rw (typing_tree_of-node p) (by_parts _ _ g e _ _ d)
+
+-- ---- a step that fits its rule has no more premises than its term has parts
+
+fields_enough : (g : Context) (es : TermFields) (t : Typ) (ts : List Typ) → FitsRule TypeRule.Rcd None g (record_term es) t ts → length ts ≤ length (fields_in g es)
+fields_enough g no_terms (record_of no_fields) [] h = omega arith
+fields_enough g (term_field k e es) (record_of (field l u us)) (t ∷ ts) h = let rest = fields_enough g es (record_of us) ts h.2 in omega arith
+fields_enough _ _ _ _ h = absurd h
+
+pub enough_parts : (r : TypeRule) (c : Option Claim) (g : Context) (e : Term) (t : Typ) (ts : List Typ) (first : Option Typ)
+    → FitsRule r c g e t ts → length ts ≤ length (subjects r g e first)
+enough_parts TypeRule.True None g true_term t [] first h = omega arith
+enough_parts TypeRule.False None g false_term t [] first h = omega arith
+enough_parts TypeRule.If None g (if_then_else a b c) t (t1 ∷ t2 ∷ t3 ∷ []) first h = omega arith
+enough_parts TypeRule.Num None g (numeral n) t [] first h = omega arith
+enough_parts TypeRule.Succ None g (succ a) t (t1 ∷ []) first h = omega arith
+enough_parts TypeRule.Pred None g (pred a) t (t1 ∷ []) first h = omega arith
+enough_parts TypeRule.IsZero None g (is_zero a) t (t1 ∷ []) first h = omega arith
+enough_parts TypeRule.Var None g (variable n) t [] first h = omega arith
+enough_parts TypeRule.Abs None g (lambda (Some u) a) t (t1 ∷ []) first h = omega arith
+enough_parts TypeRule.App None g (apply a b) t (t1 ∷ t2 ∷ []) first h = omega arith
+enough_parts TypeRule.Unit None g unit_term t [] first h = omega arith
+enough_parts TypeRule.Ascribe None g (ascribe a (Some u)) t (t1 ∷ []) first h = omega arith
+enough_parts TypeRule.Let None g (let_in a b) t (t1 ∷ t2 ∷ []) first h = omega arith
+enough_parts TypeRule.Rcd None g (record_term es) t ts first h = fields_enough g es t ts h
+enough_parts TypeRule.Proj None g (project a l) t (t1 ∷ []) first h = omega arith
+enough_parts TypeRule.Fix None g (fix a) t (t1 ∷ []) first h = omega arith
+enough_parts TypeRule.Sub (Some c) g e t (t1 ∷ []) first h = omega arith
+enough_parts _ _ _ _ _ _ first h = absurd h
 
 -- ---- what a premise is about
 

@@ -38,7 +38,7 @@ FitsRule TypeRule.Fix None g (fix e1) t (t1 ∷ []) = t1 ≡ arrow t t
 FitsRule TypeRule.Sub (Some claim) g e t (t1 ∷ []) = claim ≡ record { lower = t1; upper = t }
 FitsRule _ _ _ _ _ _ = ⊥
 
--- The last step of a tree follows by its rule from the conclusions of its premises, whether these are proved or not.
+-- The last step of a tree follows by its rule from the conclusions of its premises, whether these are proved or not; the labels of its type are distinct.
 abbrev pub IsTypingStep : Context → Term → TypingTree → Type 0
 IsTypingStep g e (typing_step r t ps s) = IsWellFormed t × FitsRule r (option_map conclusion s) g e t (types_in ps)
 
@@ -82,7 +82,7 @@ parts_in g (project e l) first = about g e ∷ []
 parts_in g (fix e) first = about g e ∷ []
 parts_in g _ first = []
 
--- what the premises of a step by this rule are about: the parts of the term, except for T-Sub the term itself
+-- what the premises of a step by this rule are about: the parts of the term or, for T-Sub, the term itself
 abbrev pub subjects : TypeRule → Context → Term → (first : Option Typ) → List Subject
 subjects TypeRule.Sub g e first = about g e ∷ []
 subjects rule g e first = parts_in g e first

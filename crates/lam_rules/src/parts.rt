@@ -18,8 +18,8 @@ pub enum Part<'a> {
     Under(Option<&'a Ty>, &'a Core),
 }
 
-/// Returns what premise `k` of a step by this rule about the term is about, if some part is left for it. `first` is the type
-/// that the first premise concludes, if there is one.
+/// Returns the part of the term that premise `k` of a step by this rule is about, if there is one; for T-Sub that is the term itself.
+/// `first` is the type that the first premise concludes, if there is one.
 pub fn part_of<'t>(
     rule: TypeRule,
     term: &'t Core,

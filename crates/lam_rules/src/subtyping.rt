@@ -31,8 +31,8 @@ pub fn check_sub(proof: &SubProof, dialect: Dialect) -> bool
     check_subs(&proof.premises, dialect)
 }
 
-/// Whether the last step of a tree follows by its rule from the conclusions of its premises, whether these are proved or
-/// not.
+/// Whether the last step of a tree follows by its rule, one of this dialect, from the conclusions of its premises, whether these are
+/// proved or not, and the labels of both types are distinct.
 pub fn check_sub_step(proof: &SubProof, dialect: Dialect) -> bool
     ensures { IsTrue result ↔ IsSubStep (sub_tree_of proof.now) dialect }
 {

@@ -142,8 +142,8 @@ fn first_type(premises: &[TypeProof]) -> Option<&Ty>
     }
 }
 
-/// Whether the last step of a tree follows by its rule from the conclusions of its premises, whether these are proved or
-/// not, in this context, as `check_type` takes it.
+/// Whether the last step of a tree follows by its rule from the conclusions of its premises, whether these are proved or not, and
+/// the labels of its type are distinct. The context has the order of `check_type`; its labels are not looked at.
 pub fn check_type_step(context: &[Option<Ty>], term: &Core, proof: &TypeProof) -> bool
     ensures { IsTrue result ↔ IsTypingStep (context_of context.now) (term_of term.now) (typing_tree_of proof.now) }
 {
