@@ -236,7 +236,7 @@ PROOF = [
 NAMES = [{"name": "point", "type": WIDE}, {"name": "next", "type": "{x:Nat}->Nat"}]
 ACCEPTED = f"d: accepted: point:{WIDE}, next:{{x:Nat}}->Nat |- next point : Nat\n"
 BELOW = "step {} does not follow by its rule from its premises"
-ENTRY = "d: entry {} of the context is not a type that the text gives its name\n"
+ENTRY = "d: entry {} of the context does not fit its name in the text\n"
 OTHER_NAMES = "d: the context has other names than those that the term sees\n"
 # A name of a term, a declared one, and a use of the first.
 USED = "r = {a=0, b=true}; s : {b:Bool, a:Nat}; r"
@@ -413,7 +413,7 @@ CASES = [
     Case("a derivation as JSON", ["--json", "--why", "1:1", "a"], {"a": "0"}, line({"derivation": STEPS, "file": "a"}), 0),
     Case("a derivation is verified", ["--verify", "d"], {"a": CALL, "d": sent()}, ACCEPTED, 0),
     Case("of a text that is named", ["--verify", "--of", "b", "d"], {"b": CALL, "d": json.dumps({"context": NAMES, "steps": PROOF}, indent=1)}, ACCEPTED, 0),
-    Case("of no text", ["--verify", "d"], {"d": line({"context": NAMES, "steps": PROOF})}, "d: it names no file that it is of: name it with --of\n", 1),
+    Case("of no text", ["--verify", "d"], {"d": line({"context": NAMES, "steps": PROOF})}, "d: it does not name its file: give it with --of\n", 1),
     Case("what is sent is verified, line by line", ["--verify", "d"], {"a": CALL, "d": sent() + sent((4, {"type": "Bool"}))}, ACCEPTED + "d: " + BELOW.format(4) + "\n", 1),
     Case("a numeral is verified", ["--verify", "d"], {"a": "0", "d": line({"derivation": STEPS, "file": "a"})}, "d: accepted: 0 : Nat\n", 0),
     Case("another type", ["--verify", "d"], {"a": CALL, "d": sent((1, {"type": "{x:Nat}"}))}, "d: " + BELOW.format(1) + "\n", 1),
@@ -424,7 +424,7 @@ CASES = [
     Case("a premise about no part of the term", ["--verify", "d"], {"a": CALL, "d": sent(steps=[*PROOF[:4], PROOF[1], {**PROOF[4], "from": [0, 3, 4]}])}, "d: " + BELOW.format(5) + "\n", 1),
     Case("a premise is dropped", ["--verify", "d"], {"a": CALL, "d": sent((3, {"from": [1]}))}, "d: the premises of step 3 are not the last steps of the proofs directly before it\n", 1),
     Case("steps are cut", ["--verify", "d"], {"a": CALL, "d": sent(steps=PROOF[:4])}, "d: the steps do not make one proof of typing that ends in step 3\n", 1),
-    Case("another range", ["--verify", "d"], {"a": CALL, "d": sent((0, {"range": place(2, 0, 3)}))}, "d: step 0 has the range of another term\n", 1),
+    Case("another range", ["--verify", "d"], {"a": CALL, "d": sent((0, {"range": place(2, 0, 3)}))}, "d: step 0 does not have the range of its term\n", 1),
     Case("a range outside", ["--verify", "d"], {"a": CALL, "d": sent((0, {"range": place(9, 0, 4)}))}, "d: step 0 has no range of characters of the text\n", 1),
     Case("another text", ["--verify", "d"], {"a": CALL.replace("next p", "nest p"), "d": sent()}, "d: " + BELOW.format(0) + "\n", 1),
     Case("other names", ["--verify", "d"], {"a": CALL, "d": sent(names=NAMES[:1])}, "d: the context has other names than those that the term sees\n", 1),
@@ -475,6 +475,7 @@ CASES = [
     *(Case(name, ["--verify", "d"], {"a": CALL, "d": told}, f"d: {why}\n", 1) for name, told, why in UNREAD),
     Case("no derivation", ["--verify", "d"], {"a": CALL, "d": line({"derivation": None, "file": "a"})}, "d: it is no object of exactly `context` and `steps`, both lists\n", 1),
     Case("a file beside its lists", ["--verify", "--of", "a", "d"], {"a": "0", "d": line(dict(STEPS, file="a"))}, "d: it is no object of exactly `context` and `steps`, both lists\n", 1),
+    Case("a line below a derivation is no JSON", ["--verify", "d"], {"a": CALL, "d": "\n" + sent() + "x\n" + sent()}, ACCEPTED + "d: it is no JSON: invalid JSON at line 3 column 1\n" + ACCEPTED, 1),
     Case("JSON is cut", ["--verify", "d"], {"a": CALL, "d": sent()[:14]}, "d: it is no JSON: EOF while parsing at line 1 column 14\n", 1),
     Case("derivations not in UTF-8", ["--verify", "d"], {"d": b"\xff"}, "", 4, refused("d", "it is not UTF-8 from byte 0 on")),
     Case("a text that is gone", ["--verify", "d"], {"d": sent()}, "", 4, refused("a", "No such file or directory (os error 2)")),
@@ -483,8 +484,8 @@ CASES = [
     Case("blank lines between derivations", ["--verify", "d"], {"a": CALL, "d": sent() + "\n \r\n" + sent() + "\n"}, ACCEPTED + ACCEPTED, 0),
     Case("control characters in the name of a file of derivations", ["--verify", "d\x1b[2J"], {"a": CALL, "d\x1b[2J": sent()}, ACCEPTED.replace("d:", "d\ufffd[2J:", 1), 0),
     Case("control characters in the name of a text", ["--verify", "d"], {"d": line({"derivation": STEPS, "file": "a\x1b[2J"})}, "", 4, refused("a\ufffd[2J", "No such file or directory (os error 2)")),
-    Case("a derivation of standard input", ["--verify", "d"], {"d": line({"derivation": STEPS, "file": "<stdin>"})}, "d: it names no file that it is of: name it with --of\n", 1),
-    Case("a derivation of standard input, told by a dash", ["--verify", "d"], {"d": line({"derivation": STEPS, "file": "-"})}, "d: it names no file that it is of: name it with --of\n", 1, given=b"0"),
+    Case("a derivation of standard input", ["--verify", "d"], {"d": line({"derivation": STEPS, "file": "<stdin>"})}, "d: it does not name its file: give it with --of\n", 1),
+    Case("a derivation of standard input, told by a dash", ["--verify", "d"], {"d": line({"derivation": STEPS, "file": "-"})}, "d: it does not name its file: give it with --of\n", 1, given=b"0"),
     Case("a blank line before derivations", ["--verify", "d"], {"a": CALL, "d": "\n" + sent() + sent()}, ACCEPTED + ACCEPTED, 0),
     Case(
         "control characters in a label of a type",
@@ -495,7 +496,7 @@ CASES = [
     ),
     Case("steps on twenty thousand levels", ["--verify", "d"], lifted(20_000, "T-Num", 5), "d: accepted: succ 0 : Nat\n", 0),
     Case("a wrong step below twenty thousand others", ["--verify", "d"], lifted(20_000, "T-Var", 5), "d: " + BELOW.format(0) + "\n", 1),
-    Case("a wrong range below twenty thousand others", ["--verify", "d"], lifted(20_000, "T-Num", 0), "d: step 0 has the range of another term\n", 1),
+    Case("a wrong range below twenty thousand others", ["--verify", "d"], lifted(20_000, "T-Num", 0), "d: step 0 does not have the range of its term\n", 1),
     Case("a type with a depth of 4,096", ["--verify", "d"], function_of(nested(4095)), f"d: accepted: lambda x:Top. 0 : {nested(4095)}->Nat\n", 0),
     Case("a type with a depth of 4,097", ["--verify", "d"], function_of(nested(4096)), "d: step 4 has an unreadable type, or one of over 4,096 levels\n", 1),
     Case(

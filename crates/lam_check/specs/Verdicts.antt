@@ -7,10 +7,10 @@ use Rattle.lam_rules.specs.Types.{Typ}
 use Rattle.lam_rules.specs.declared.rules.Dialect.{Dialect}
 use Rattle.lam_text.specs.declared.units.Encoding.TheVariants.{Utf16}
 use Rattle.lam_query.specs.Derivations.{ContextEntry, Derivation}
-use Rattle.lam_query.specs.Steps.{Conclusion}
+use Rattle.lam_query.specs.Steps.{Conclusion, last_conclusion}
 use Rattle.lam_session.specs.Derivations.{derivation_value}
 use Rattle.lam_check.specs.Drawings.{claim_text, line}
-use Rattle.lam_query.specs.FirstFaults.{IsFirstFault, last_conclusion}
+use Rattle.lam_query.specs.FirstFaults.{IsFirstFault}
 use Rattle.lam_query.specs.Verified.{IsVerified}
 use Rattle.lam_check.specs.Lines.{shown_line}
 use Rattle.lam_check.specs.Readable.{IsReadable}
@@ -73,9 +73,9 @@ message (faults.Loose n) = codes "the steps do not make one proof of typing that
 message faults.TooLarge = codes "the text has a type of more than 4,096 nodes"
 message (faults.NoTerm n) = codes "step " ++ decimal n ++ codes " is about no term of the text"
 message faults.Names = codes "the context has other names than those that the term sees"
-message (faults.Entry n) = codes "entry " ++ decimal n ++ codes " of the context is not a type that the text gives its name"
+message (faults.Entry n) = codes "entry " ++ decimal n ++ codes " of the context does not fit its name in the text"
 message (faults.Step n) = codes "step " ++ decimal n ++ codes " does not follow by its rule from its premises"
-message (faults.Range n) = codes "step " ++ decimal n ++ codes " has the range of another term"
+message (faults.Range n) = codes "step " ++ decimal n ++ codes " does not have the range of its term"
 
 -- why a value is not read as a derivation
 unfoldable pub unread_text : Unread → Text

@@ -7,7 +7,7 @@ use Rattle.lam_query.specs.Derivations.{Derivation}
 use Rattle.lam_query.specs.Verified.{IsVerified}
 use Rattle.lam_session.specs.Derivations.{derivation_value}
 
--- The value is a derivation in the form that the language server sends, and it is about a term of the text.
+-- The value is a derivation in the form that the language server sends, and a valid proof about a term of the text.
 pub record IsVerifiedValue (text : List ℕ) (value : Data) (d : Dialect) : Type 0 where
   pub derivation : Derivation
   pub is_value : value ≡ derivation_value Utf16 text (Some derivation)

@@ -21,15 +21,11 @@ pub fn tell_verdicts<R: AllocGlobal + Files + Input + Print + Eprint>(
         Ok(value) => return tell_verdict(rt, asked, name, &value),
         Err(fault) => fault,
     };
-    let Some((first, rest)) = text.trim_start().split_once('\n') else {
-        return tell_no_json(rt, name, &fault);
-    };
-    match Value::from_str(rt.alloc(), first) {
-        Ok(value) => {
-            let status = tell_verdict(rt, asked, name, &value);
-            status.max(tell_lines(rt, asked, name, rest))
+    match text.trim_start().split_once('\n') {
+        Some((first, _)) if Value::from_str(rt.alloc(), first).is_ok() => {
+            tell_lines(rt, asked, name, text)
         }
-        Err(_) => tell_no_json(rt, name, &fault),
+        _ => tell_no_json(rt, name, &fault),
     }
 }
 
@@ -38,20 +34,40 @@ fn tell_lines<R: AllocGlobal + Files + Input + Print + Eprint>(
     rt: &R,
     asked: Asked<'_>,
     name: &str,
-    lines: &str,
+    text: &str,
 ) -> u8 {
     let mut status = FAULTLESS;
-    for line in lines.lines() {
+    for (above, line) in text.lines().enumerate() {
         if line.trim().is_empty() {
             continue;
         }
         let own = match Value::from_str(rt.alloc(), line) {
             Ok(value) => tell_verdict(rt, asked, name, &value),
-            Err(fault) => tell_no_json(rt, name, &fault),
+            Err(_) => tell_no_json_line(rt, name, above, line),
         };
         status = status.max(own);
     }
     status
+}
+
+/// Reports that a line is not JSON, and returns the exit status. It is read once more below as many empty lines as there are lines
+/// above it in its file, so that the position that is printed is one in the file.
+fn tell_no_json_line<R: AllocGlobal + Print + Eprint>(
+    rt: &R,
+    name: &str,
+    above: usize,
+    line: &str,
+) -> u8 {
+    let Ok(mut placed) = "\n".repeat(rt.alloc(), above) else {
+        return want_of_memory(rt);
+    };
+    if placed.push_str(line).is_err() {
+        return want_of_memory(rt);
+    }
+    match Value::from_str(rt.alloc(), &placed) {
+        Ok(_) => FAULTY,
+        Err(fault) => tell_no_json(rt, name, &fault),
+    }
 }
 
 /// Verifies one derivation. Prints the result, and returns the exit status for it.
@@ -66,7 +82,7 @@ fn tell_verdict<R: AllocGlobal + Files + Input + Print + Eprint>(
         return tell_line(
             rt,
             name,
-            "it names no file that it is of: name it with --of",
+            "it does not name its file: give it with --of",
         );
     };
     let text = match text_of(rt, rt.alloc(), source) {

@@ -2,11 +2,11 @@
 ghost use Rattle.std.specs.Prelude.{◌≡◌, ◌↔◌, ◌++◌, All, IfOk, OnOk, flat_map, map, option_map, string_bytes};
 ghost use Rattle.serde_json.specs.View.{view};
 ghost use Rattle.lam_query.specs.Views.{StepStandsIn, derivation_of, entry_of, step_of};
-ghost use Rattle.lam_query.specs.FirstFaults.{last_conclusion};
 ghost use Rattle.lam_check.specs.Readable.{IsReadable};
 ghost use Rattle.lam_check.specs.Verdicts.{IsSent, IsVerdict, accepted_line, claim_in, context_text, entry_text, message, next_entry, refused_line, unread_text};
 ghost use Rattle.lam_check.specs.Verified.{IsVerifiedValue};
 ghost use Rattle.lam_check.specs.declared.read_derivations.Unread.TheVariants.{Memory};
+ghost use Rattle.lam_query.specs.Steps.{last_conclusion};
 
 use crate::drawings::claim_of;
 use crate::lines::push_shown;
@@ -132,7 +132,7 @@ fn message_of(alloc: Global, fault: FirstFault) -> Result<String, AllocError>
         FirstFault::Entry(entry) => {
             write!(
                 out,
-                "entry {entry} of the context is not a type that the text gives its name"
+                "entry {entry} of the context does not fit its name in the text"
             )?;
         }
         FirstFault::Step(step) => {
@@ -141,7 +141,9 @@ fn message_of(alloc: Global, fault: FirstFault) -> Result<String, AllocError>
                 "step {step} does not follow by its rule from its premises"
             )?;
         }
-        FirstFault::Range(step) => write!(out, "step {step} has the range of another term")?,
+        FirstFault::Range(step) => {
+            write!(out, "step {step} does not have the range of its term")?;
+        }
     }
     Ok(out)
 }

@@ -4,13 +4,12 @@ use Rattle.lam_rules.specs.Subtyping.{SubTree}
 use Rattle.lam_rules.specs.SubViews.{sub_trees_made}
 use Rattle.lam_rules.specs.Typing.{TypingTree, typing_step}
 use Rattle.lam_rules.specs.TypingViews.{typings_made}
-use Rattle.lam_query.specs.ProofTrees.{Tree, of_typing, of_subtyping, Premises, typing_premises, sub_premises, tree_from, tree_in, trees_in, if_typing}
+use Rattle.lam_query.specs.ProofTrees.{Tree, of_typing, of_subtyping, Premises, typing_premises, sub_premises, tree_from, tree_in, trees_in, if_typing, MakeTree}
 use Rattle.lam_query.specs.Steps.{Conclusion, typing, subtyping, Step, Proof, concludes, Proofs, no_proofs, proof_first, steps_before, number_of_steps}
 use Rattle.lam_query.proofs.Flat.{length_of_steps}
 use Rattle.lam_query.proofs.JoinedProofs.{then_found, map_found}
-use Rattle.lam_query.specs.FirstFaults.{MakeTree}
 use Rattle.lam_query.specs.Judgements.{steps_in, steps_in_each, side_steps_in, sub_steps_in_each}
-use Rattle.lam_query.specs.inner.Walking.{size}
+use Rattle.lam_query.specs.inner.Backwards.{size}
 
 -- the number of nodes
 

@@ -1,15 +1,13 @@
 -- What follows among the steps of a proof: all of them if the last one does; and a step that follows from what its premises conclude, once those before it follow.
 use Rattle.std.proofs.Common.{◌≤◌, ℕ, zero, suc, List, [], ◌∷◌, ◌++◌, length, replicate, Option, Some, None, sym, subst, arith, append_assoc, append-nil}
-use Rattle.lam_rules.specs.Types.{Typ, record_of, no_fields, field}
-use Rattle.lam_rules.specs.Terms.{Term, true_term, false_term, if_then_else, numeral, succ, pred, is_zero, variable, lambda, apply, unit_term, ascribe, let_in, record_term, project, fix, TermFields, no_terms, term_field}
-use Rattle.lam_rules.specs.Subtyping.{Claim, SubTree, sub_step, SubTrees, no_subs, sub_first, IsSubProof, AreSubProofs}
+use Rattle.lam_rules.specs.Terms.{Term}
+use Rattle.lam_rules.specs.Subtyping.{SubTree, sub_step, SubTrees, no_subs, sub_first, IsSubProof, AreSubProofs}
 use Rattle.lam_rules.specs.Typing.{Context, TypingTree, typing_step, TypingTrees, no_typings, typing_first, IsTyping}
-use Rattle.lam_rules.specs.TypingSteps.{types_in, FitsRule, IsSideProof, Subject, fields_in, first_type, subjects, AreTypings}
+use Rattle.lam_rules.specs.TypingSteps.{types_in, IsSideProof, Subject, first_type, subjects, AreTypings}
 use Rattle.lam_rules.specs.declared.rules.Dialect.{Dialect}
-use Rattle.lam_rules.specs.declared.rules.TypeRule.{TypeRule}
-use Rattle.lam_rules.proofs.TypingSteps.{by_parts}
-use Rattle.lam_query.specs.Judgements.{Judgement, typed, below, about_no_part, Follows, Each, AllFollow, IsFirstWithout, IsFirstFailing, sub_judgements, sub_judgements_each, side_judgements, judgements, judgements_each, steps_in}
-use Rattle.lam_query.specs.inner.Walking.{Holds}
+use Rattle.lam_rules.proofs.TypingSteps.{by_parts, enough_parts}
+use Rattle.lam_query.specs.Judgements.{Judgement, typed, below, about_no_part, Follows, Each, IsFirstWithout, IsFirstFailing, sub_judgements, sub_judgements_each, side_judgements, judgements, judgements_each, steps_in}
+use Rattle.lam_query.specs.inner.Walking.{Holds, AllFollow}
 
 pub each_append : (P : Judgement → Type 0) (xs ys : List Judgement) → Each P xs → Each P ys → Each P (xs ++ ys)
 each_append P [] ys h k = k
@@ -75,34 +73,6 @@ typings_proved d [] (typing_first p ps) far h = absurd (omega arith)
 typings_proved d (s ∷ ss) (typing_first p ps) far h =
     let parts = each_split (Follows d) (judgements s.context s.term p) (judgements_each ss ps) h in
     (typing_proved d s.context s.term p parts.0, typings_proved d ss ps (omega arith) parts.1)
-
--- ---- a step that fits its rule has no more premises than its term has parts
-
-fields_enough : (g : Context) (es : TermFields) (t : Typ) (ts : List Typ) → FitsRule TypeRule.Rcd None g (record_term es) t ts → length ts ≤ length (fields_in g es)
-fields_enough g no_terms (record_of no_fields) [] h = omega arith
-fields_enough g (term_field k e es) (record_of (field l u us)) (t ∷ ts) h = let rest = fields_enough g es (record_of us) ts h.2 in omega arith
-fields_enough _ _ _ _ h = absurd h
-
-enough_parts : (r : TypeRule) (c : Option Claim) (g : Context) (e : Term) (t : Typ) (ts : List Typ) (first : Option Typ)
-    → FitsRule r c g e t ts → length ts ≤ length (subjects r g e first)
-enough_parts TypeRule.True None g true_term t [] first h = omega arith
-enough_parts TypeRule.False None g false_term t [] first h = omega arith
-enough_parts TypeRule.If None g (if_then_else a b c) t (t1 ∷ t2 ∷ t3 ∷ []) first h = omega arith
-enough_parts TypeRule.Num None g (numeral n) t [] first h = omega arith
-enough_parts TypeRule.Succ None g (succ a) t (t1 ∷ []) first h = omega arith
-enough_parts TypeRule.Pred None g (pred a) t (t1 ∷ []) first h = omega arith
-enough_parts TypeRule.IsZero None g (is_zero a) t (t1 ∷ []) first h = omega arith
-enough_parts TypeRule.Var None g (variable n) t [] first h = omega arith
-enough_parts TypeRule.Abs None g (lambda (Some u) a) t (t1 ∷ []) first h = omega arith
-enough_parts TypeRule.App None g (apply a b) t (t1 ∷ t2 ∷ []) first h = omega arith
-enough_parts TypeRule.Unit None g unit_term t [] first h = omega arith
-enough_parts TypeRule.Ascribe None g (ascribe a (Some u)) t (t1 ∷ []) first h = omega arith
-enough_parts TypeRule.Let None g (let_in a b) t (t1 ∷ t2 ∷ []) first h = omega arith
-enough_parts TypeRule.Rcd None g (record_term es) t ts first h = fields_enough g es t ts h
-enough_parts TypeRule.Proj None g (project a l) t (t1 ∷ []) first h = omega arith
-enough_parts TypeRule.Fix None g (fix a) t (t1 ∷ []) first h = omega arith
-enough_parts TypeRule.Sub (Some c) g e t (t1 ∷ []) first h = omega arith
-enough_parts _ _ _ _ _ _ first h = absurd h
 
 -- ---- each step that holds follows, once those before it do
 

@@ -4,6 +4,7 @@ pub mod OneProof
 pub mod ReadTrees
 pub mod Counting
 pub mod Following
+pub mod Backwards
 pub mod StepByStep
 pub mod PendingProofs
 pub mod TreesMade

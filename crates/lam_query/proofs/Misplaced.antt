@@ -1,24 +1,24 @@
 -- Steps whose premises are the last steps of the proofs directly before them.
-use Rattle.std.proofs.Common.{◌≡◌, ℕ, zero, suc, ◌+◌, ◌-◌, ◌<◌, List, [], ◌∷◌, ◌++◌, length, get_or, map, take, drop, Option, Some, None, option_map, Bool, IsTrue, Bor, slice_get, ◌↔◌, ◌≤◌, true, false, refl, sym, ap, subst, ◌∙◌, arith, append_assoc, append-nil, length-append, if◌then◌else◌}
+use Rattle.std.proofs.Common.{◌≡◌, ℕ, zero, suc, ◌+◌, ◌-◌, ◌<◌, List, [], ◌∷◌, ◌++◌, length, get_or, map, take, drop, Option, Some, None, option_map, Bool, IsTrue, Bor, slice_get, ◌↔◌, ◌≤◌, true, false, refl, sym, ap, subst, ◌∙◌, arith, append_assoc, append-nil, length-append, add-one, if◌then◌else◌}
 use Rattle.std.specs.Option.{option_and_then, option_copied}
 use Rattle.std.specs.Str.{bytes_eq}
 use Rattle.std.proofs.lemmas.List.{take_at, drop_at, take_more, take_all, take-append-drop, length-map, length-take-le, get_or-map}
 use Rattle.std.proofs.lemmas.Slice.Eq.{bytes_eq-Decides}
-use Rattle.lam_query.specs.Steps.{Conclusion, typing, subtyping, Step, Proof, concludes, Proofs, no_proofs, proof_first, steps_before, number_of_steps, last_steps, steps_of, steps_of_each}
+use Rattle.lam_query.specs.Steps.{Conclusion, typing, subtyping, Step, Proof, concludes, Proofs, no_proofs, proof_first, steps_before, number_of_steps, last_steps, steps_of, steps_of_each, last_conclusion}
 use Rattle.lam_query.specs.Views.{step_of}
 use Rattle.lam_query.specs.declared.answers.Step.{Step as RustStep}
 use Rattle.lam_query.proofs.Flat.{length_of_steps, length_of_steps_of_each}
 use Rattle.lam_query.proofs.JoinedProofs.{then_found, joined, steps_joined, number_joined}
-use Rattle.lam_query.specs.ProofTrees.{Tree, of_typing, of_subtyping, if_typing, tree_in, trees_in}
+use Rattle.lam_query.specs.ProofTrees.{Tree, of_typing, of_subtyping, if_typing, tree_in, trees_in, MakeTree}
 use Rattle.std.proofs.lemmas.Option.{same_Some}
 use Rattle.lam_rules.specs.Typing.{TypingTree}
 use Rattle.lam_query.proofs.OneProof.{one_proof_of_steps}
-use Rattle.lam_query.proofs.StepByStep.{conclusion_of, conclusions_of, said_last, Alike, tree_alike}
+use Rattle.lam_query.proofs.Backwards.{conclusion_of, conclusions_of, said_last, Alike, tree_alike, taken}
 use Rattle.lam_query.proofs.TreesMade.{HaveTrees, one_more_tree, one_tree_less}
 use Rattle.lam_query.specs.inner.Placing.{IsTypingSaid, MayHave}
-use Rattle.lam_query.specs.inner.Walking.{said_at, said_by}
+use Rattle.lam_query.specs.inner.Backwards.{said_at, said_by}
 use Rattle.lam_query.proofs.PendingProofs.{said_got}
-use Rattle.lam_query.specs.FirstFaults.{AreOfOneProof, AreOfProofs, IsFirstMisplaced, MakeTree, last_conclusion}
+use Rattle.lam_query.specs.FirstFaults.{AreOfOneProof, AreOfProofs, IsFirstMisplaced}
 
 -- ---- proofs one after another
 
@@ -161,17 +161,17 @@ one_further all steps s rest front have next whole fits h =
       );
     }
 
-not_further : {A : Type 0} (steps : List Step) (s : Step) (rest : List Step) (lasts : List ℕ) (have : Bool) → AreSoFar steps lasts have → bytes_eq s.premises (drop (length lasts - length s.premises) lasts) ≡ false
-    → AreOfProofs (steps ++ s ∷ rest) → A
-not_further steps s rest lasts have h other all =
+not_further : {A : Type 0} (steps : List Step) (s : Step) (lasts : List ℕ) (have : Bool) → AreSoFar steps lasts have → bytes_eq s.premises (drop (length lasts - length s.premises) lasts) ≡ false
+    → AreOfProofs (steps ++ s ∷ []) → A
+not_further steps s lasts have h other all =
     let so_far : after_all 0 steps [] ≡ Some lasts = ap (λ ss. after_all 0 ss []) h.are ∙ of_all h.proofs ∙ ap (λ l. Some l) (sym h.lasts_are) in
     let none : after_one (length steps) s lasts ≡ None = rw other refl in
     let none_more : 0 + length steps ≡ length steps = omega arith in
-    let stuck : after_all 0 (steps ++ s ∷ rest) [] ≡ None =
-    then_rest 0 steps (s ∷ rest) []
-    ∙ ap (λ n. option_and_then (λ l. after_all n (s ∷ rest) l) (after_all 0 steps [])) none_more
-    ∙ ap (option_and_then (λ l. after_all (length steps) (s ∷ rest) l)) so_far
-    ∙ ap (option_and_then (λ l. after_all (length steps + 1) rest l)) none
+    let stuck : after_all 0 (steps ++ s ∷ []) [] ≡ None =
+    then_rest 0 steps (s ∷ []) []
+    ∙ ap (λ n. option_and_then (λ l. after_all n (s ∷ []) l) (after_all 0 steps [])) none_more
+    ∙ ap (option_and_then (λ l. after_all (length steps) (s ∷ []) l)) so_far
+    ∙ ap (option_and_then (λ l. after_all (length steps + 1) [] l)) none
     in
     let clash : None ≡ Some (last_steps 0 all.proofs) = sym stuck ∙ ap (λ ss. after_all 0 ss []) all.are ∙ of_all all.proofs in
     absurd cc
@@ -183,16 +183,6 @@ more_steps steps i x inside is =
     take_more (map step_of steps) i (step_of x) (omega arith)
     ∙ ap (λ y. take i (map step_of steps) ++ y ∷ []) (get_or-map step_of steps i x (step_of x) inside ∙ ap step_of (sym is))
 
--- a longer front
-longer_front : (steps : List RustStep) (i n : ℕ) (x : RustStep) → i < length steps → i < n → x ≡ get_or steps i x
-    → (rest : List Step) × (take n (map step_of steps) ≡ take i (map step_of steps) ++ step_of x ∷ rest)
-longer_front [] i n x inside more is = absurd (omega arith)
-longer_front (s ∷ steps) i zero x inside more is = absurd (omega arith)
-longer_front (s ∷ steps) zero (suc n) x inside more is = (take n (map step_of steps), ap (λ y. step_of y ∷ take n (map step_of steps)) (sym is))
-longer_front (s ∷ steps) (suc i) (suc n) x inside more is =
-    let rest = longer_front steps i n x (omega arith) (omega arith) is in
-    (rest.0, ap (λ l. step_of s ∷ l) rest.1)
-
 size_so_far : (steps : List RustStep) (i : ℕ) → i < length steps → length (take i (map step_of steps)) ≡ i
 size_so_far steps i inside = length-take-le i (map step_of steps) (let long = length-map steps step_of in omega arith)
 
@@ -201,9 +191,9 @@ pub is_misplaced : (steps : List RustStep) (i : ℕ) (x : RustStep) (lasts premi
 is_misplaced steps i x lasts premises have inside is are h other = record {
   inside = (let long = length-map steps step_of in omega arith);
   before = record { proofs = h.proofs; are = h.are };
-  not_with_it = λ n more all.
-      let front = longer_front steps i n x inside more is in
-      not_further (take i (map step_of steps)) (step_of x) front.0 lasts have h (ap (λ ps. bytes_eq ps (drop (length lasts - length ps) lasts)) (sym are) ∙ other) (subst AreOfProofs front.1 all);
+  not_with_it = λ all.
+      let front : take (suc i) (map step_of steps) ≡ take i (map step_of steps) ++ step_of x ∷ [] = rw add-one at (more_steps steps i x inside is) in
+      not_further (take i (map step_of steps)) (step_of x) lasts have h (ap (λ ps. bytes_eq ps (drop (length lasts - length ps) lasts)) (sym are) ∙ other) (subst AreOfProofs front all);
 }
 
 pub is_placed : (steps : List RustStep) (i : ℕ) (x : RustStep) (lasts now premises : List ℕ) (have next : Bool) → i < length steps → x ≡ get_or steps i x → premises ≡ (step_of x).premises
@@ -230,10 +220,52 @@ is_placed steps i x lasts now premises have next inside is are fits h same pushe
 pub of_one : (steps : List Step) (p : Proof) → steps ≡ steps_of 0 p → AreOfProofs steps
 of_one steps p is = record { proofs = proof_first p no_proofs; are = is ∙ sym (append-nil (steps_of 0 p)) }
 
-pub one_is_placed : {A : Type 0} (steps : List Step) (p : Proof) (number : ℕ) → steps ≡ steps_of 0 p → IsFirstMisplaced steps number → A
-one_is_placed steps p number is h =
+-- so are those before the last one
+last_apart : (ps : Proofs) (n : ℕ) → number_of_steps ps ≡ suc n → (front : Proofs) × (p : Proof) × (ps ≡ joined front (proof_first p no_proofs))
+last_apart no_proofs n many = absurd (omega (arith, many))
+last_apart (proof_first p no_proofs) n many = (no_proofs, p, refl)
+last_apart (proof_first p (proof_first q qs)) n many =
+    let rest = last_apart (proof_first q qs) (steps_before q + number_of_steps qs) (omega arith) in
+    (proof_first p rest.0, rest.1, ap (λ rs. proof_first p rs) rest.2)
+
+one_less : (steps : List Step) (n : ℕ) → AreOfProofs (take (suc n) steps) → n < length steps → AreOfProofs (take n steps)
+one_less steps n all inside =
+    let long = length-take-le (suc n) steps (omega arith) in
+    let many = length_of_steps_of_each 0 all.proofs in
+    let same = ap length all.are in
+    let apart = last_apart all.proofs n (omega arith) in
+    let next : n + 1 ≡ suc n = omega arith in
+    without_last apart.0 apart.1 (ap (λ k. take k steps) next ∙ all.are ∙ ap (steps_of_each 0) apart.2)
+  where
+    got : (xs : List Step) (k : ℕ) (d : Step) → k < length xs → get_or xs k (get_or xs k d) ≡ get_or xs k d
+    got [] k d lt = absurd (omega arith)
+    got (x ∷ xs) zero d lt = refl
+    got (x ∷ xs) (suc k) d lt = got xs k d (omega arith)
+
+    without_last : (front : Proofs) (p : Proof) → take (n + 1) steps ≡ steps_of_each 0 (joined front (proof_first p no_proofs)) → AreOfProofs (take n steps)
+    without_last front (concludes c qs) are = record {
+      proofs = joined front qs;
+      are = (taken steps n (get_or steps n (record { conclusion = c; premises = [] })) inside (sym (got steps n (record { conclusion = c; premises = [] }) inside)) front c qs are).are;
+    }
+
+-- a longer beginning of the list is not, either
+pub longer_misplaced : {A : Type 0} (steps : List Step) (number more : ℕ) → suc number + more ≤ length steps → IsFirstMisplaced steps number → AreOfProofs (take (suc number + more) steps) → A
+longer_misplaced steps number zero le h all =
+    let none : suc number + 0 ≡ suc number = omega arith in
+    absurd (h.not_with_it (subst (λ n. AreOfProofs (take n steps)) none all))
+longer_misplaced steps number (suc more) le h all =
+    let next : suc number + suc more ≡ suc (suc number + more) = omega arith in
+    longer_misplaced steps number more (omega (arith, le)) h (one_less steps (suc number + more) (subst (λ n. AreOfProofs (take n steps)) next all) (omega (arith, le)))
+
+pub never_misplaced : {A : Type 0} (steps : List Step) (number : ℕ) → IsFirstMisplaced steps number → AreOfProofs steps → A
+never_misplaced steps number h all =
     let inside = h.inside in
-    absurd (h.not_with_it (length steps) inside (subst AreOfProofs (sym (take_all (length steps) steps (omega arith))) (of_one steps p is)))
+    let whole : length steps ≡ suc number + (length steps - suc number) = omega arith in
+    longer_misplaced steps number (length steps - suc number) (omega arith) h
+    (subst (λ n. AreOfProofs (take n steps)) whole (subst AreOfProofs (sym (take_all (length steps) steps (omega arith))) all))
+
+pub one_is_placed : {A : Type 0} (steps : List Step) (p : Proof) (number : ℕ) → steps ≡ steps_of 0 p → IsFirstMisplaced steps number → A
+one_is_placed steps p number is h = never_misplaced steps number h (of_one steps p is)
 
 pub never_empty : {A : Type 0} (steps : List Step) (p : Proof) → steps ≡ steps_of 0 p → length steps ≡ 0 → A
 never_empty steps p is none = let long = length_of_steps 0 p in let same = ap length is in absurd (omega arith)

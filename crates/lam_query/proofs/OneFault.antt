@@ -1,6 +1,5 @@
 -- Only one thing is wrong first with a derivation.
-use Rattle.std.proofs.Common.{◌≡◌, ℕ, zero, suc, ◌+◌, ◌<◌, inl, inr, List, [], ◌∷◌, ◌++◌, length, take, slice_get, refl, sym, ap, subst, ◌∙◌, arith}
-use Rattle.std.proofs.lemmas.List.{take_all}
+use Rattle.std.proofs.Common.{◌≡◌, ℕ, zero, suc, ◌+◌, ◌-◌, ◌<◌, inl, inr, List, [], ◌∷◌, ◌++◌, length, take, slice_get, refl, sym, ap, subst, ◌∙◌, arith}
 use Rattle.std.proofs.lemmas.Option.{same_Some}
 use Rattle.lam_rules.specs.Typing.{Context, TypingTree, IsTyping}
 use Rattle.lam_rules.specs.declared.rules.Dialect.{Dialect}
@@ -8,18 +7,20 @@ use Rattle.lam_syntax.specs.Trees.{CommandTree}
 use Rattle.lam_scope.specs.Places.{Scope}
 use Rattle.lam_scope.specs.PlacedTerms.{PlacedTree, document_terms, term_of, tree_in}
 use Rattle.lam_query.specs.Derivations.{Derivation}
-use Rattle.lam_query.specs.ProofTrees.{typing_tree_in}
+use Rattle.lam_query.specs.ProofTrees.{typing_tree_in, MakeTree}
 use Rattle.lam_query.specs.Steps.{Step, steps_of, typing_proof}
 use Rattle.lam_query.proofs.OneAnswer.{one_document}
 use Rattle.lam_query.proofs.OneProof.{one_proof_of_steps}
 use Rattle.lam_query.specs.Sizes.{IsSizeFault}
-use Rattle.lam_query.specs.FirstFaults.{AreOfOneProof, AreOfProofs, DifferFirst, HasContext, HasNames, HasRange, IsFaultAt, IsFaultIn, IsFaultInText, IsFirstFault, IsFirstMisplaced, IsFirstUnfitEntry, IsFirstWithRange, IsTooLarge, MakeTree, entries_listed}
-use Rattle.lam_query.specs.Judgements.{Judgement, Follows, AllFollow, IsFirstFailing, judgements}
+use Rattle.lam_query.specs.FirstFaults.{AreOfOneProof, AreOfProofs, DifferFirst, HasRange, IsFaultAt, IsFaultIn, IsFaultInText, IsFirstFault, IsFirstMisplaced, IsFirstUnfitEntry, IsFirstWithRange, IsTooLarge}
+use Rattle.lam_query.specs.Judgements.{Judgement, Follows, IsFirstFailing, judgements}
 use Rattle.lam_query.specs.declared.answers.FirstFault.{FirstFault}
 use Rattle.lam_query.specs.declared.answers.FirstFault.TheVariants as faults
 use Rattle.lam_query.proofs.Following.{follows}
 use Rattle.lam_query.proofs.ListedEntries.{unfit_no_context}
-use Rattle.lam_query.proofs.Misplaced.{one_is_placed, never_empty}
+use Rattle.lam_query.proofs.Misplaced.{longer_misplaced, never_empty, never_misplaced, one_is_placed}
+use Rattle.lam_query.specs.Verified.{HasContext, HasNames, entries_listed}
+use Rattle.lam_query.specs.inner.Walking.{AllFollow}
 
 -- ---- the first of a kind
 
@@ -31,7 +32,10 @@ one_number P (suc n) zero never h k = absurd (never zero (suc n) (omega arith) k
 one_number P (suc n) (suc m) never h k = ap suc (one_number (λ i. P (suc i)) n m (λ i j lt. never (suc i) (suc j) (omega arith)) h k)
 
 one_misplaced : (steps : List Step) (n m : ℕ) → IsFirstMisplaced steps n → IsFirstMisplaced steps m → n ≡ m
-one_misplaced steps n m = one_number (IsFirstMisplaced steps) n m (λ i j lt h k. h.not_with_it j lt k.before)
+one_misplaced steps n m = one_number (IsFirstMisplaced steps) n m (λ i j lt h k.
+    let inside = k.inside in
+    let longer : j ≡ suc i + (j - suc i) = omega arith in
+    longer_misplaced steps i (j - suc i) (omega arith) h (subst (λ l. AreOfProofs (take l steps)) longer k.before))
 
 one_with_range : (commands : List CommandTree) (steps : List Step) (n m : ℕ) → IsFirstWithRange commands steps n → IsFirstWithRange commands steps m → n ≡ m
 one_with_range commands steps n m = one_number (IsFirstWithRange commands steps) n m (λ i j lt h k. k.first i lt h.here)
@@ -199,9 +203,6 @@ not_empty_one steps none one = never_empty steps one.make.whole one.make.are_ste
 misplaced_of_one : {A : Type 0} (steps : List Step) (n : ℕ) → IsFirstMisplaced steps n → AreOfOneProof steps → A
 misplaced_of_one steps n h one = one_is_placed steps one.make.whole n one.make.are_steps h
 
-misplaced_of_proofs : {A : Type 0} (steps : List Step) (n : ℕ) → IsFirstMisplaced steps n → AreOfProofs steps → A
-misplaced_of_proofs steps n h of_proofs = absurd (h.not_with_it (length steps) h.inside (subst AreOfProofs (sym (take_all (length steps) steps (omega arith))) of_proofs))
-
 -- a text with a type that is too large is not small
 large_not_small : {A : Type 0} (text : List ℕ) (x : Derivation) (d : Dialect) (fault : FirstFault) → IsTooLarge text d → IsFaultInText text x d fault → A
 large_not_small text x d fault large h =
@@ -221,11 +222,11 @@ one_stage text x d a b (no_step is h) (too_large also one k) = not_empty_one x.s
 one_stage text x d a b (no_step is h) (in_text k) = not_empty_one x.steps h k.of_one_proof
 one_stage text x d a b (misplaced n is h) (no_step also k) = not_empty_inside x.steps n k h.inside
 one_stage text x d a b (misplaced n is h) (misplaced m also k) = is ∙ ap (λ i. faults.Premises i) (one_misplaced x.steps n m h k) ∙ sym also
-one_stage text x d a b (misplaced n is h) (loose m also placed long k) = misplaced_of_proofs x.steps n h placed
+one_stage text x d a b (misplaced n is h) (loose m also placed long k) = never_misplaced x.steps n h placed
 one_stage text x d a b (misplaced n is h) (too_large also one k) = misplaced_of_one x.steps n h one
 one_stage text x d a b (misplaced n is h) (in_text k) = misplaced_of_one x.steps n h k.of_one_proof
 one_stage text x d a b (loose n is placed long h) (no_step also k) = not_empty_inside x.steps n k (omega arith)
-one_stage text x d a b (loose n is placed long h) (misplaced m also k) = misplaced_of_proofs x.steps m k placed
+one_stage text x d a b (loose n is placed long h) (misplaced m also k) = never_misplaced x.steps m k placed
 one_stage text x d a b (loose n is placed long h) (loose m also well far k) = is ∙ ap (λ i. faults.Loose i) (one_length n m (length x.steps) long far) ∙ sym also
 one_stage text x d a b (loose n is placed long h) (too_large also one k) = absurd (h one.tree one.make)
 one_stage text x d a b (loose n is placed long h) (in_text k) = absurd (h k.of_one_proof.tree k.of_one_proof.make)

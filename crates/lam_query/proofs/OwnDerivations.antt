@@ -1,6 +1,9 @@
 -- A derivation of the type that a hover shows is verified: its least entries are a context that the rules allow.
-use Rattle.std.proofs.Common.{◌≡◌, ℕ, suc, ◌<◌, List, [], ◌∷◌, length, Option, Some, None, IfSome, option_map, Bool, true, false, if◌then◌else◌, refl, sym, ap, subst, ◌∙◌, arith}
+use Rattle.std.proofs.Common.{◌≡◌, ℕ, suc, ◌<◌, List, [], ◌∷◌, length, reverse, Option, Some, None, IfSome, option_map, Bool, true, false, if◌then◌else◌, refl, sym, ap, subst, ◌∙◌, arith}
+use Rattle.std.proofs.lemmas.List.{reverse-reverse}
 use Rattle.std.proofs.lemmas.Option.{same_Some}
+use Rattle.lam_rules.specs.Typing.{IsTyping}
+use Rattle.lam_typing.specs.Contexts.{IsContext}
 use Rattle.lam_rules.specs.declared.rules.Dialect.{Dialect}
 use Rattle.lam_scope.specs.PlacedTerms.{PlacedTree, document_terms, term_of, tree_in}
 use Rattle.lam_typing.proofs.LeastContexts.{least_are_context, place_wf}
@@ -9,7 +12,7 @@ use Rattle.lam_query.specs.Derivations.{Derivation, IsDerivedIn}
 use Rattle.lam_query.specs.Hovers.{has_byte, innermost_at}
 use Rattle.lam_query.specs.Views.{derivation_of}
 use Rattle.lam_query.specs.declared.answers.Derivation.{Derivation as RustDerivation}
-use Rattle.lam_query.specs.Verified.{IsProofOf, IsVerified}
+use Rattle.lam_query.specs.Verified.{IsProofOf, IsVerified, entries_listed}
 
 -- a term of the list, in the text
 record Found (ts : List PlacedTree) (term : PlacedTree) : Type 0 where
@@ -46,14 +49,13 @@ derived_verified text offset x d h =
     let a = h.answer in
     let found = found_among offset (document_terms h.commands) a.term a.typed.innermost in
     let wf : IsWellFormedPlace (term_of a.term).place = subst (λ t. IsWellFormedPlace (term_of t).place) found.is (place_wf h.commands found.number) in
+    let listed : a.entries ≡ entries_listed x = sym (reverse-reverse a.entries) ∙ ap reverse (sym a.types) in
+    let context = least_are_context (term_of a.term).place.scope a.entries d wf.0 a.least in
     let proof : IsProofOf a.term x d = record {
       written = found.written;
-      entries = a.entries;
-      context = least_are_context (term_of a.term).place.scope a.entries d wf.0 a.least;
-      names = a.names;
-      types = a.types;
+      has_context = record { names = a.names; context = subst (λ g. IsContext (term_of a.term).place.scope g d) listed context };
       tree = a.tree;
-      proof = a.proof;
+      proof = subst (λ g. IsTyping g (term_of a.term).place.here a.tree d) listed a.proof;
       steps = a.steps;
     } in
     record {

@@ -1,7 +1,7 @@
 -- Proofs that wait to be checked, and the entries that they share.
-use Rattle.std.proofs.Common.{◌≡◌, ◌↔◌, ℕ, zero, suc, ◌+◌, ◌-◌, ◌<◌, ◌≤◌, List, [], ◌∷◌, ◌++◌, length, map, take, drop, get_or, slice_get, replicate, Option, Some, None, Result, Ok, Err, IfOk, OnOk, IsTrue, Bool, true, false, Bor, Box, Vec, refl, append_assoc, append-nil, sym, ap, subst, ◌∙◌, arith, drop-cons, add-one}
+use Rattle.std.proofs.Common.{◌≡◌, ◌↔◌, ℕ, zero, suc, ◌+◌, ◌-◌, ◌<◌, ◌≤◌, List, [], ◌∷◌, ◌++◌, length, map, take, drop, get_or, slice_get, replicate, Option, Some, None, Result, Ok, Err, IfOk, OnOk, MatchOption, IsTrue, Bool, true, false, Bor, Box, Vec, refl, append_assoc, append-nil, sym, ap, subst, ◌∙◌, arith, drop-cons, add-one}
 use Rattle.std.specs.Option.{option_map, option_copied}
-use Rattle.std.proofs.lemmas.List.{map-append, length-map, take_all, get_or-map}
+use Rattle.std.proofs.lemmas.List.{map-append, length-map, take_all}
 use Rattle.lam_token.specs.declared.span.Span.{Span}
 use Rattle.std.specs.declared.alloc.Global.{Global}
 use Rattle.lam_rules.specs.Types.{Typ, IsWellFormed}
@@ -25,16 +25,18 @@ use Rattle.lam_rules.specs.declared.parts.Part.TheVariants as part
 use Rattle.lam_rules.specs.declared.terms.Core.{Core}
 use Rattle.lam_rules.specs.declared.types.Ty.{Ty}
 use Rattle.lam_rules.specs.declared.typing.TypeProof.{TypeProof, out-TypeProof, roll-TypeProof, out-roll-TypeProof}
-use Rattle.lam_query.specs.FirstFaults.{MakeTree}
-use Rattle.lam_query.specs.Judgements.{Judgement, judgements}
-use Rattle.lam_query.proofs.StepByStep.{none_walked, went_right, went_wrong, never_empty}
+use Rattle.lam_query.specs.Judgements.{Judgement, Each, IsFirstWithout, IsFirstFailing, judgements}
+use Rattle.lam_query.proofs.Backwards.{none_read, one_back, none_pending, all_read}
+use Rattle.lam_query.proofs.StepByStep.{IsOwn, parted, first_before, first_here, told}
 use Rattle.lam_query.specs.Steps.{Conclusion, typing, subtyping}
 use Rattle.lam_query.specs.Views.{step_of}
 use Rattle.lam_query.specs.declared.answers.Step.{Step as RustStep}
 use Rattle.lam_query.specs.declared.wrong_steps.Seen.{Seen}
 use Rattle.lam_query.specs.declared.wrong_steps.Pending.{Pending}
 use Rattle.lam_query.specs.declared.wrong_steps.Pending.TheVariants as pending
-use Rattle.lam_query.specs.inner.Walking.{Left, about_part, said_at, said_by, types_said, claims_said, last_claim, first_said, left_for, without_first, lefts_for, lefts_under, IsRight, left_of, depth_of, typing_of, IsKnown, IsTop, NeedAtLeast, AreKnown, IsWalked}
+use Rattle.lam_query.specs.inner.Backwards.{said_at, said_by, AreRead}
+use Rattle.lam_query.specs.inner.Walking.{Left, about_part, says, Suits, Holds, types_said, claims_said, last_claim, first_said, left_for, without_first, lefts_for, lefts_under, IsRight, left_of, depth_of, typing_of, IsKnown, IsTop, NeedAtLeast, AreKnown, IsWalked, AllFollow}
+use Rattle.lam_query.specs.ProofTrees.{MakeTree}
 
 -- ---- what steps conclude that are looked up
 
@@ -328,48 +330,54 @@ pub begun_walk : (steps : List RustStep) (d : Dialect) (g : List (Option Ty)) (t
 begun_walk steps d g term depth sound tree deep h =
     let front : take depth g ≡ g = take_all depth g (omega arith) in
     let long : length (map step_of steps) ≡ length steps - 0 = (let l = length-map steps step_of in omega arith) in
-    subst (λ es. IsWalked (map step_of steps) d (judgements (context_of g) (term_of term.now) tree) (length steps - 0) (about_part (about (context_of es) (term_of term.now)) ∷ []) None) (sym front)
-    (subst (λ n. IsWalked (map step_of steps) d (judgements (context_of g) (term_of term.now) tree) n (about_part (about (context_of g) (term_of term.now)) ∷ []) None) long
-    (none_walked (map step_of steps) d (about (context_of g) (term_of term.now)) tree h))
+    let all = judgements (context_of g) (term_of term.now) tree in
+    record {
+      done = [];
+      are_read =
+          subst (λ es. AreRead Left Judgement Suits says (map step_of steps) all (length steps - 0) (about_part (about (context_of es) (term_of term.now)) ∷ []) []) (sym front)
+          (subst (λ n. AreRead Left Judgement Suits says (map step_of steps) all n (about_part (about (context_of g) (term_of term.now)) ∷ []) []) long
+          (none_read Left Judgement Suits says (map step_of steps) (about_part (about (context_of g) (term_of term.now))) tree h tt));
+      first = tt;
+    }
 
 module _ (steps : List RustStep) (d : Dialect) (all : List Judgement) (back : ℕ) (g h : List (Option Ty)) (ps qs rs : List Pending) (own : Pending) (x : RustStep) (wrong : Option ℕ)
     (inside : back < length steps) (popped : ps ≡ qs ++ own ∷ []) (there : x ≡ get_or steps (length steps - 1 - back) x)
-    (left : map (left_of h) rs ≡ map (left_of g) qs ++ lefts_under (left_of g own) (step_of x).conclusion (map (said_at (map step_of steps)) (step_of x).premises)) where
-  abbrev number : ℕ
-  number = length steps - 1 - back
+    (left : map (left_of h) rs ≡ map (left_of g) qs ++ lefts_under (left_of g own) (step_of x).conclusion (map (said_at (map step_of steps)) (step_of x).premises))
+    (w : IsWalked (map step_of steps) d all (length steps - back) (map (left_of g) ps) wrong) where
+  abbrev Right : Type 0
+  Right = IsRight d (left_of g own) (step_of x).conclusion (map (said_at (map step_of steps)) (step_of x).premises)
 
-  here : step_of x ≡ get_or (map step_of steps) number (step_of x)
-  here = ap step_of there ∙ sym (get_or-map step_of steps number x (step_of x) (omega arith))
+  one_more : (judged : Judgement) × AreRead Left Judgement Suits says (map step_of steps) all (length steps - (back + 1)) (map (left_of h) rs) (judged ∷ w.done) × (Holds d judged ↔ Right)
+  one_more =
+      one_back Left Judgement Suits says lefts_under (IsOwn d) (parted d) steps all back w.done inside (map (left_of g) ps) (map (left_of g) qs) (map (left_of h) rs) (left_of g own) x
+      (ap (map (left_of g)) popped ∙ map-append (left_of g) qs (own ∷ [])) there left w.are_read
 
-  before : IsWalked (map step_of steps) d all (length steps - back) (map (left_of g) ps) wrong
-      → IsWalked (map step_of steps) d all (number + 1) (map (left_of g) qs ++ left_of g own ∷ []) wrong
-  before w =
-      let one : length steps - back ≡ number + 1 = omega arith in
-      subst (λ ls. IsWalked (map step_of steps) d all (number + 1) ls wrong) (ap (map (left_of g)) popped ∙ map-append (left_of g) qs (own ∷ []))
-      (subst (λ n. IsWalked (map step_of steps) d all n (map (left_of g) ps) wrong) one w)
+  pub stepped_right : Right → IsWalked (map step_of steps) d all (length steps - (back + 1)) (map (left_of h) rs) wrong
+  stepped_right right = record {
+    done = one_more.0 ∷ w.done;
+    are_read = one_more.1;
+    first = first_before d (length steps - (back + 1)) (length steps - back) one_more.0 w.done wrong (omega arith) (one_more.2.1 right) w.first;
+  }
 
-  after : (next : Option ℕ)
-      → IsWalked (map step_of steps) d all number (map (left_of g) qs ++ lefts_under (left_of g own) (step_of x).conclusion (map (said_at (map step_of steps)) (step_of x).premises)) next
-      → IsWalked (map step_of steps) d all (length steps - (back + 1)) (map (left_of h) rs) next
-  after next w =
-      let one : number ≡ length steps - (back + 1) = omega arith in
-      subst (λ n. IsWalked (map step_of steps) d all n (map (left_of h) rs) next) one (subst (λ ls. IsWalked (map step_of steps) d all number ls next) (sym left) w)
-
-  many : number < length (map step_of steps)
-  many = let long = length-map steps step_of in omega arith
-
-  pub stepped_right : IsRight d (left_of g own) (step_of x).conclusion (map (said_at (map step_of steps)) (step_of x).premises)
-      → IsWalked (map step_of steps) d all (length steps - back) (map (left_of g) ps) wrong → IsWalked (map step_of steps) d all (length steps - (back + 1)) (map (left_of h) rs) wrong
-  stepped_right right w = after wrong (went_right (map step_of steps) d all number (map (left_of g) qs) (left_of g own) (step_of x) many here wrong right (before w))
-
-  pub stepped_wrong : (IsRight d (left_of g own) (step_of x).conclusion (map (said_at (map step_of steps)) (step_of x).premises) → ⊥)
-      → IsWalked (map step_of steps) d all (length steps - back) (map (left_of g) ps) wrong → IsWalked (map step_of steps) d all (length steps - (back + 1)) (map (left_of h) rs) (Some number)
-  stepped_wrong not_right w = after (Some number) (went_wrong (map step_of steps) d all number (map (left_of g) qs) (left_of g own) (step_of x) many here wrong not_right (before w))
+  pub stepped_wrong : (Right → ⊥) → IsWalked (map step_of steps) d all (length steps - (back + 1)) (map (left_of h) rs) (Some (length steps - 1 - back))
+  stepped_wrong not_right =
+      let here : length steps - (back + 1) ≡ length steps - 1 - back = omega arith in
+      record {
+        done = one_more.0 ∷ w.done;
+        are_read = one_more.1;
+        first = subst (IsFirstWithout (Holds d) (length steps - (back + 1)) (one_more.0 ∷ w.done)) here
+            (first_here d (length steps - (back + 1)) one_more.0 w.done (λ holds. not_right (one_more.2.0 holds)));
+      }
 
 pub nothing_left : {A : Type 0} (steps : List RustStep) (d : Dialect) (all : List Judgement) (back : ℕ) (g : List (Option Ty)) (ps : List Pending) (wrong : Option ℕ)
     → back < length steps → (0 < length ps → false ≡ true) → IsWalked (map step_of steps) d all (length steps - back) (map (left_of g) ps) wrong → A
-nothing_left steps d all back g [] wrong inside none w =
-    let one : length steps - back ≡ length steps - 1 - back + 1 = omega arith in
-    let long = length-map steps step_of in
-    never_empty (map step_of steps) d all (length steps - 1 - back) wrong (omega arith) (subst (λ n. IsWalked (map step_of steps) d all n [] wrong) one w)
-nothing_left steps d all back g (p ∷ ps) wrong inside none w = let clash : false ≡ true = none (omega arith) in absurd cc
+nothing_left steps d all back g ps wrong inside none w = none_pending Left Judgement Suits says steps all back w.done (left_of g) ps inside none w.are_read
+
+pub walked : (steps : List RustStep) (d : Dialect) (g : Context) (e : Term) (tree : TypingTree) (n : ℕ) (ls : List Left) (wrong : Option ℕ) → n ≡ 0
+    → IsWalked (map step_of steps) d (judgements g e tree) n ls wrong
+    → MatchOption wrong (AllFollow d (judgements g e tree)) (λ k. IsFirstFailing d 0 (judgements g e tree) k)
+walked steps d g e tree n ls wrong none w =
+    let start = subst (λ m. AreRead Left Judgement Suits says (map step_of steps) (judgements g e tree) m ls w.done) none w.are_read in
+    let first = subst (λ m. MatchOption wrong (Each (Holds d) w.done) (λ k. IsFirstWithout (Holds d) m w.done k)) none w.first in
+    told d g e tree wrong
+    (subst (λ js. MatchOption wrong (Each (Holds d) js) (λ k. IsFirstWithout (Holds d) 0 js k)) (sym (all_read Left Judgement Suits says (map step_of steps) (judgements g e tree) ls w.done start)) first)

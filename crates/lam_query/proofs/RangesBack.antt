@@ -1,6 +1,6 @@
 -- Steps that are compared with those of a proof of the same tree that has the ranges of terms, from the last one down.
-use Rattle.std.proofs.Common.{◌≡◌, ◌↔◌, ℕ, zero, suc, ◌+◌, ◌-◌, ◌<◌, List, [], ◌∷◌, ◌++◌, length, map, take, drop, get_or, Option, Some, None, option_map, slice_get, MatchOption, true, false, refl, sym, ap, subst, ◌∙◌, arith, append_assoc, append-nil, length-append, drop-cons, add-one}
-use Rattle.std.proofs.lemmas.List.{take_all, length-take-le, length-map, map-append, get_or-map}
+use Rattle.std.proofs.Common.{◌≡◌, ◌↔◌, ℕ, zero, suc, ◌+◌, ◌-◌, ◌<◌, List, [], ◌∷◌, ◌++◌, length, map, take, drop, get_or, Option, Some, None, option_map, slice_get, MatchOption, true, false, refl, sym, ap, subst, ◌∙◌, arith, append_assoc, drop-cons, add-one}
+use Rattle.std.proofs.lemmas.List.{length-map, map-append, get_or-map}
 use Rattle.std.proofs.lemmas.Option.{same_Some}
 use Rattle.std.proofs.Math.ListN.{drop_of_length-le}
 use Rattle.lam_rules.specs.Subtyping.{SubTree, sub_step, SubTrees, no_subs, sub_first}
@@ -8,9 +8,9 @@ use Rattle.lam_rules.specs.SubViews.{sub_trees_made}
 use Rattle.lam_rules.specs.Typing.{TypingTree, typing_step, TypingTrees, no_typings, typing_first}
 use Rattle.lam_rules.specs.TypingViews.{typings_made}
 use Rattle.lam_scope.specs.Tables.{Table, place_row_numbered}
-use Rattle.lam_query.specs.FirstFaults.{DifferFirst, MakeTree}
+use Rattle.lam_query.specs.FirstFaults.{DifferFirst}
 use Rattle.lam_query.specs.Judgements.{steps_in, steps_in_each, side_steps_in, sub_steps_in, sub_steps_in_each}
-use Rattle.lam_query.specs.ProofTrees.{Tree, of_typing, of_subtyping, Premises, typing_premises, sub_premises, tree_from, tree_in, trees_in, if_typing}
+use Rattle.lam_query.specs.ProofTrees.{Tree, of_typing, of_subtyping, Premises, typing_premises, sub_premises, tree_from, tree_in, trees_in, MakeTree}
 use Rattle.lam_query.specs.Steps.{Conclusion, typing, subtyping, Step, Proof, concludes, Proofs, no_proofs, proof_first, steps_before, number_of_steps, last_steps, steps_of, steps_of_each, sub_proof, sub_proofs, typing_proof, with_side}
 use Rattle.lam_query.specs.Views.{step_of}
 use Rattle.lam_scope.specs.PlacedTerms.{document_terms, tree_in as term_in}
@@ -20,14 +20,13 @@ use Rattle.lam_scope.specs.declared.scopes.Scopes.{Scopes}
 use Rattle.lam_syntax.specs.Trees.{CommandTree}
 use Rattle.lam_query.specs.declared.answers.Step.{Step as RustStep}
 use Rattle.lam_query.specs.inner.RowSteps.{premise_places, row_proof, row_proofs}
-use Rattle.lam_query.specs.inner.Ranges.{number_of, PlaceSuits, PlacesSuit, placed_proof, placed_proofs, terms_under, others_of, place_for, places_for, IsRanged, DifferFrom, AreCompared}
-use Rattle.lam_query.specs.inner.Walking.{size, said_at}
+use Rattle.lam_query.specs.inner.Ranges.{number_of, PlaceSuits, placed_proof, placed_steps, terms_under, others_of, place_for, places_for, IsRanged, DifferFrom, AreCompared}
+use Rattle.lam_query.specs.inner.Backwards.{size, said_at, SuitEach, says_each, AreRead}
 use Rattle.lam_query.proofs.Counting.{proof_size}
-use Rattle.lam_query.proofs.Flat.{length_of_steps}
 use Rattle.lam_query.proofs.PendingProofs.{drop_here}
-use Rattle.lam_query.proofs.JoinedProofs.{then_found, map_found, joined, steps_joined}
+use Rattle.lam_query.proofs.JoinedProofs.{then_found, map_found}
 use Rattle.lam_query.proofs.RowsAndTerms.{same_proof}
-use Rattle.lam_query.proofs.StepByStep.{conclusions_of, AlikeEach, trees_alike, trees_apart, trees_joined, no_trees, taken}
+use Rattle.lam_query.proofs.Backwards.{conclusions_of, AlikeEach, trees_alike, IsParted, one_back, none_read, none_pending, all_read}
 
 -- ---- how many steps a placed proof has
 
@@ -63,37 +62,31 @@ placed_size t None (of_typing p) = row_size t 0 p
 placed_size t (Some place) (of_subtyping q) = sub_size q
 placed_size t None (of_subtyping q) = sub_size q
 
--- as many as the proofs with these trees
-same_number : (t : Table) (ls : List (Option ℕ)) (ps : Proofs) (ts : List Tree) → trees_in ps ≡ Some ts → PlacesSuit ls ts → number_of_steps (placed_proofs t ls ts) ≡ number_of_steps ps
-same_number t [] no_proofs ts e suit = refl
-same_number t (l ∷ ls) no_proofs ts e suit = absurd (subst (PlacesSuit (l ∷ ls)) (sym (same_Some [] ts e)) suit)
-same_number t ls (proof_first p ps) ts e suit =
-    let first = then_found (λ tree. option_map (λ trees. tree ∷ trees) (trees_in ps)) (tree_in p) ts e in
-    let rest = map_found (λ trees. first.0 ∷ trees) (trees_in ps) ts first.2 in
-    subst (λ us. number_of_steps (placed_proofs t ls us) ≡ steps_before p + 1 + number_of_steps ps) rest.2
-    (go ls first.0 rest.0 first.1 (λ ks k. same_number t ks ps rest.0 rest.1 k) (subst (PlacesSuit ls) (sym rest.2) suit))
-  where
-    go : (ls : List (Option ℕ)) (u : Tree) (us : List Tree) → tree_in p ≡ Some u
-        → ((ks : List (Option ℕ)) → PlacesSuit ks us → number_of_steps (placed_proofs t ks us) ≡ number_of_steps ps) → PlacesSuit ls (u ∷ us)
-        → number_of_steps (placed_proofs t ls (u ∷ us)) ≡ steps_before p + 1 + number_of_steps ps
-    go [] u us own others suit = absurd suit
-    go (l ∷ ls) u us own others suit =
-        let a = placed_size t l u in
-        let b = proof_size p u own in
-        let c = others ls suit.1 in
-        omega arith
+-- the proofs of several trees, each about the next of these places
+abbrev placed_proofs : Table → List (Option ℕ) → List Tree → Proofs
+placed_proofs t (l ∷ ls) (tree ∷ trees) = proof_first (placed_proof t l tree) (placed_proofs t ls trees)
+placed_proofs t _ _ = no_proofs
 
-same_lasts : (t : Table) (n : ℕ) (ls : List (Option ℕ)) (ps : Proofs) (ts : List Tree) → trees_in ps ≡ Some ts → PlacesSuit ls ts → last_steps n (placed_proofs t ls ts) ≡ last_steps n ps
+steps_placed : (t : Table) (n : ℕ) (ls : List (Option ℕ)) (us : List Tree) → says_each (placed_steps t) n ls us ≡ steps_of_each n (placed_proofs t ls us)
+steps_placed t n [] [] = refl
+steps_placed t n [] (u ∷ us) = refl
+steps_placed t n (l ∷ ls) [] = refl
+steps_placed t n (l ∷ ls) (u ∷ us) =
+    let far : n + size u ≡ n + steps_before (placed_proof t l u) + 1 = (let own = placed_size t l u in omega arith) in
+    ap (λ ss. placed_steps t n l u ++ ss) (ap (λ m. says_each (placed_steps t) m ls us) far ∙ steps_placed t (n + steps_before (placed_proof t l u) + 1) ls us)
+
+-- where the premises of a placed proof end
+same_lasts : (t : Table) (n : ℕ) (ls : List (Option ℕ)) (ps : Proofs) (ts : List Tree) → trees_in ps ≡ Some ts → SuitEach PlaceSuits ls ts → last_steps n (placed_proofs t ls ts) ≡ last_steps n ps
 same_lasts t n [] no_proofs ts e suit = refl
-same_lasts t n (l ∷ ls) no_proofs ts e suit = absurd (subst (PlacesSuit (l ∷ ls)) (sym (same_Some [] ts e)) suit)
+same_lasts t n (l ∷ ls) no_proofs ts e suit = absurd (subst (SuitEach PlaceSuits (l ∷ ls)) (sym (same_Some [] ts e)) suit)
 same_lasts t n ls (proof_first p ps) ts e suit =
     let first = then_found (λ tree. option_map (λ trees. tree ∷ trees) (trees_in ps)) (tree_in p) ts e in
     let rest = map_found (λ trees. first.0 ∷ trees) (trees_in ps) ts first.2 in
     subst (λ us. last_steps n (placed_proofs t ls us) ≡ (n + steps_before p) ∷ last_steps (n + steps_before p + 1) ps) rest.2
-    (go ls first.0 rest.0 first.1 (λ ks k. same_lasts t (n + steps_before p + 1) ks ps rest.0 rest.1 k) (subst (PlacesSuit ls) (sym rest.2) suit))
+    (go ls first.0 rest.0 first.1 (λ ks k. same_lasts t (n + steps_before p + 1) ks ps rest.0 rest.1 k) (subst (SuitEach PlaceSuits ls) (sym rest.2) suit))
   where
     go : (ls : List (Option ℕ)) (u : Tree) (us : List Tree) → tree_in p ≡ Some u
-        → ((ks : List (Option ℕ)) → PlacesSuit ks us → last_steps (n + steps_before p + 1) (placed_proofs t ks us) ≡ last_steps (n + steps_before p + 1) ps) → PlacesSuit ls (u ∷ us)
+        → ((ks : List (Option ℕ)) → SuitEach PlaceSuits ks us → last_steps (n + steps_before p + 1) (placed_proofs t ks us) ≡ last_steps (n + steps_before p + 1) ps) → SuitEach PlaceSuits ls (u ∷ us)
         → last_steps n (placed_proofs t ls (u ∷ us)) ≡ (n + steps_before p) ∷ last_steps (n + steps_before p + 1) ps
     go [] u us own others suit = absurd suit
     go (l ∷ ls) u us own others suit =
@@ -101,30 +94,6 @@ same_lasts t n ls (proof_first p ps) ts e suit =
         let b = proof_size p u own in
         let here : steps_before (placed_proof t l u) ≡ steps_before p = omega arith in
         ap (λ m. (n + m) ∷ last_steps (n + m + 1) (placed_proofs t ls us)) here ∙ ap (λ l. (n + steps_before p) ∷ l) (others ls suit.1)
-
--- ---- lists whose last element is taken
-
-places_apart : (ls : List (Option ℕ)) (l : Option ℕ) (ts : List Tree) → PlacesSuit (ls ++ l ∷ []) ts
-    → (us : List Tree) × (t : Tree) × (ts ≡ us ++ t ∷ []) × PlacesSuit ls us × PlaceSuits l t
-places_apart [] l [] h = absurd h
-places_apart [] l (t ∷ []) h = ([], t, refl, tt, h.0)
-places_apart [] l (t ∷ u ∷ ts) h = absurd h.1
-places_apart (k ∷ ls) l [] h = absurd h
-places_apart (k ∷ ls) l (t ∷ ts) h =
-    let rest = places_apart ls l ts h.1 in
-    (t ∷ rest.0, rest.1, ap (λ us. t ∷ us) rest.2, (h.0, rest.3), rest.4)
-
-places_joined : (ls ms : List (Option ℕ)) (ts us : List Tree) → PlacesSuit ls ts → PlacesSuit ms us → PlacesSuit (ls ++ ms) (ts ++ us)
-places_joined [] ms [] us h k = k
-places_joined [] ms (t ∷ ts) us h k = absurd h
-places_joined (l ∷ ls) ms [] us h k = absurd h
-places_joined (l ∷ ls) ms (t ∷ ts) us h k = (h.0, places_joined ls ms ts us h.1 k)
-
-placed_joined : (t : Table) (ls ms : List (Option ℕ)) (ts us : List Tree) → PlacesSuit ls ts → placed_proofs t (ls ++ ms) (ts ++ us) ≡ joined (placed_proofs t ls ts) (placed_proofs t ms us)
-placed_joined t [] ms [] us h = refl
-placed_joined t [] ms (u ∷ ts) us h = absurd h
-placed_joined t (l ∷ ls) ms [] us h = absurd h
-placed_joined t (l ∷ ls) ms (u ∷ ts) us h = ap (λ ps. proof_first (placed_proof t l u) ps) (placed_joined t ls ms ts us h.1)
 
 -- ---- a step and its premises
 
@@ -147,7 +116,7 @@ side_behind p ps None = refl
 side_behind p ps (Some q) = refl
 
 record PremisesPlaced (t : Table) (l : Option ℕ) (terms : List ℕ) (cs : List Conclusion) (us : List Tree) (placed : Proofs) : Type 0 where
-  suit : PlacesSuit (places_for l terms (map Some cs)) us
+  suit : SuitEach PlaceSuits (places_for l terms (map Some cs)) us
   are : placed_proofs t (places_for l terms (map Some cs)) us ≡ placed
 
 none_placed : (t : Table) (place : ℕ) (terms : List ℕ) → no_proofs ≡ row_proofs t place terms no_typings
@@ -199,195 +168,79 @@ sub_placed t terms (subtyping r lo up ∷ cs) (of_subtyping q ∷ us) qs h e =
     subst (λ rs. PremisesPlaced t None terms (subtyping r lo up ∷ cs) (of_subtyping q ∷ us) (sub_proofs (sub_trees_made rs))) found.2
     (record { suit = (tt, rest.suit); are = ap (λ ps. proof_first (sub_proof q) ps) rest.are })
 
-record IsPlaced (t : Table) (l : Option ℕ) (c : Conclusion) (cs : List Conclusion) (us : List Tree) (tree : Tree) : Type 0 where
-  suit : PlacesSuit (places_for l (terms_under t l c) (map Some cs)) us
-  are : placed_proof t l tree ≡ concludes (ranged t l c) (placed_proofs t (places_for l (terms_under t l c) (map Some cs)) us)
+-- The step of a placed proof has the range of its term, and the premises of the step that was read.
+abbrev IsOwn : Table → Step → Option ℕ → Conclusion → List (Option Conclusion) → List ℕ → Type 0
+IsOwn t own l c cs premises = own ≡ record { conclusion = ranged t l c; premises = premises }
 
-placed : (t : Table) (l : Option ℕ) (c : Conclusion) (cs : List Conclusion) (us : List Tree) (tree : Tree) → AlikeEach cs us → tree_from c us ≡ Some tree → PlaceSuits l tree → IsPlaced t l c cs us tree
-placed t (Some place) (subtyping r lo up) cs us tree h e suits =
+abbrev under : Table → Option ℕ → Conclusion → List (Option Conclusion) → List (Option ℕ)
+under t l c cs = places_for l (terms_under t l c) cs
+
+parted_by : (t : Table) (n : ℕ) (l : Option ℕ) (c : Conclusion) (qs : Proofs) (us : List Tree) (tree : Tree) (premises : Proofs) → trees_in qs ≡ Some us
+    → PremisesPlaced t l (terms_under t l c) (conclusions_of qs) us premises → placed_proof t l tree ≡ concludes (ranged t l c) premises
+    → IsParted (Option ℕ) Step PlaceSuits (placed_steps t) (under t) (IsOwn t) n l c qs us tree
+parted_by t n l c qs us tree premises are parts made =
+    let next = under t l c (map Some (conclusions_of qs)) in
+    record {
+      own = record { conclusion = ranged t l c; premises = last_steps n qs };
+      suit = parts.suit;
+      they_say =
+          ap (steps_of n) (made ∙ ap (λ ps. concludes (ranged t l c) ps) (sym parts.are))
+          ∙ (λ j. sym (steps_placed t n next us) j ++ record { conclusion = ranged t l c; premises = same_lasts t n next qs us are parts.suit j } ∷ []);
+      is = refl;
+    }
+
+placed : (t : Table) (n : ℕ) (l : Option ℕ) (c : Conclusion) (qs : Proofs) (us : List Tree) (tree : Tree) → trees_in qs ≡ Some us → tree_from c us ≡ Some tree → PlaceSuits l tree
+    → IsParted (Option ℕ) Step PlaceSuits (placed_steps t) (under t) (IsOwn t) n l c qs us tree
+placed t n (Some place) (subtyping r lo up) qs us tree are e suits =
     let made = map_found _ (sub_premises us) tree e in
     absurd (subst (PlaceSuits (Some place)) (sym made.2) suits)
-placed t None (typing r s ty) cs us tree h e suits =
+placed t n None (typing r s ty) qs us tree are e suits =
     let made = map_found _ (typing_premises us) tree e in
     absurd (subst (PlaceSuits None) (sym made.2) suits)
-placed t (Some place) (typing r s ty) cs us tree h e suits =
+placed t n (Some place) (typing r s ty) qs us tree are e suits =
     let made = map_found _ (typing_premises us) tree e in
     let ps : Premises = made.0 in
-    let own = typing_placed t place (premise_places t place r) cs us ps h made.1 in
-    subst (IsPlaced t (Some place) (typing r s ty) cs us) made.2
-    (record { suit = own.suit; are = ap (λ qs. concludes (typing r (place_row_numbered t place).span ty) qs) (sym own.are) })
-placed t None (subtyping r lo up) cs us tree h e suits =
+    let parts = typing_placed t place (premise_places t place r) (conclusions_of qs) us ps (trees_alike qs us are) made.1 in
+    subst (IsParted (Option ℕ) Step PlaceSuits (placed_steps t) (under t) (IsOwn t) n (Some place) (typing r s ty) qs us) made.2
+    (parted_by t n (Some place) (typing r s ty) qs us _ _ are parts refl)
+placed t n None (subtyping r lo up) qs us tree are e suits =
     let made = map_found _ (sub_premises us) tree e in
-    let own = sub_placed t [] cs us made.0 h made.1 in
-    subst (IsPlaced t None (subtyping r lo up) cs us) made.2
-    (record { suit = own.suit; are = ap (λ qs. concludes (subtyping r lo up) qs) (sym own.are) })
+    let parts = sub_placed t [] (conclusions_of qs) us made.0 (trees_alike qs us are) made.1 in
+    subst (IsParted (Option ℕ) Step PlaceSuits (placed_steps t) (under t) (IsOwn t) n None (subtyping r lo up) qs us) made.2
+    (parted_by t n None (subtyping r lo up) qs us _ _ are parts refl)
 
--- ---- one step back
+-- ---- the first step with another range
 
-record IsBack (t : Table) (steps all : List Step) (i : ℕ) (ls : List (Option ℕ)) (l : Option ℕ) (step : Step) (done : List Step) : Type 0 where
-  proofs : Proofs
-  trees : List Tree
-  are : take i steps ≡ steps_of_each 0 proofs
-  are_trees : trees_in proofs ≡ Some trees
-  suit : PlacesSuit (ls ++ places_for l (terms_under t l step.conclusion) (map (said_at steps) step.premises)) trees
-  whole : all ≡ steps_of_each 0 (placed_proofs t (ls ++ places_for l (terms_under t l step.conclusion) (map (said_at steps) step.premises)) trees)
-      ++ record { conclusion = ranged t l step.conclusion; premises = step.premises } ∷ done
+same_in_front : (i j : ℕ) (steps : List Step) (step own : Step) (done : List Step) (other : Option ℕ) → j ≡ i + 1 → drop i steps ≡ step ∷ drop j steps → step ≡ own
+    → MatchOption other (drop j steps ≡ done) (λ n. DifferFrom j (drop j steps) done n)
+    → MatchOption other (drop i steps ≡ own ∷ done) (λ n. DifferFrom i (drop i steps) (own ∷ done) n)
+same_in_front i j steps step own done None next rest is h = rest ∙ (λ k. is k ∷ h k)
+same_in_front i j steps step own done (Some n) next rest is h =
+    let far : n - i ≡ suc (n - j) = (let le = h.0 in omega arith) in (
+      (let le = h.0 in omega arith),
+      ap (take (n - i)) rest ∙ ap (λ k. take k (step ∷ drop j steps)) far ∙ (λ k. is k ∷ h.1 k) ∙ sym (ap (λ k. take k (own ∷ done)) far),
+      (λ e. h.2 (sym (ap (λ k. slice_get (step ∷ drop j steps) k) far) ∙ sym (ap (λ xs. slice_get xs (n - i)) rest) ∙ e ∙ ap (λ k. slice_get (own ∷ done) k) far)),
+    )
 
-module _ (t : Table) (steps all : List Step) (i : ℕ) (ls : List (Option ℕ)) (l : Option ℕ) (step : Step) (inside : i < length steps) (there : step ≡ get_or steps i step) where
-  back : (front : Proofs) (p : Proof) (us : List Tree) (tree : Tree) (done : List Step)
-      → take (i + 1) steps ≡ steps_of_each 0 (joined front (proof_first p no_proofs)) → trees_in front ≡ Some us → tree_in p ≡ Some tree
-      → PlacesSuit ls us → PlaceSuits l tree → all ≡ steps_of_each 0 (placed_proofs t (ls ++ l ∷ []) (us ++ tree ∷ [])) ++ done → IsBack t steps all i ls l step done
-  back front (concludes c qs) us tree done are front_trees tree_is suit suits whole =
-      let here = taken steps i step inside there front c qs are in
-      let m = 0 + number_of_steps front in
-      let under = then_found (tree_from c) (trees_in qs) tree tree_is in
-      let own = placed t l c (conclusions_of qs) under.0 tree (trees_alike qs under.0 under.1) under.2 suits in
-      let next = places_for l (terms_under t l c) (map Some (conclusions_of qs)) in
-      let front_placed = placed_proofs t ls us in
-      let next_placed = placed_proofs t next under.0 in
-      let number : 0 + number_of_steps front_placed ≡ m = ap (λ n. 0 + n) (same_number t ls front us front_trees suit) in
-      let last : Step = record { conclusion = ranged t l c; premises = last_steps m next_placed } in
-      let concluded : step.conclusion ≡ c = ap (λ (s : Step). s.conclusion) here.is in
-      let premises : step.premises ≡ last_steps m next_placed = ap (λ (s : Step). s.premises) here.is ∙ sym (same_lasts t m next qs under.0 under.1 own.suit) in
-      let nexts : next ≡ places_for l (terms_under t l step.conclusion) (map (said_at steps) step.premises) =
-      (λ j. places_for l (terms_under t l (sym concluded j)) (sym here.said j)) in
-      let last_is : last ≡ record { conclusion = ranged t l step.conclusion; premises = step.premises } =
-      (λ j. record { conclusion = ranged t l (sym concluded j); premises = sym premises j }) in
-      let listed : steps_of_each 0 (placed_proofs t (ls ++ l ∷ []) (us ++ tree ∷ [])) ≡ steps_of_each 0 (placed_proofs t (ls ++ next) (us ++ under.0)) ++ last ∷ [] =
-      ap (steps_of_each 0) (placed_joined t ls (l ∷ []) us (tree ∷ []) suit)
-      ∙ ap (λ q. steps_of_each 0 (joined front_placed (proof_first q no_proofs))) own.are
-      ∙ steps_joined 0 front_placed (proof_first (concludes (ranged t l c) next_placed) no_proofs)
-      ∙ ap (λ ss. steps_of_each 0 front_placed ++ ss) (append-nil (steps_of (0 + number_of_steps front_placed) (concludes (ranged t l c) next_placed)))
-      ∙ sym (append_assoc (steps_of_each 0 front_placed) (steps_of_each (0 + number_of_steps front_placed) next_placed) (record { conclusion = ranged t l c; premises = last_steps (0 + number_of_steps front_placed) next_placed } ∷ []))
-      ∙ ap (λ n. (steps_of_each 0 front_placed ++ steps_of_each (0 + number_of_steps front_placed) next_placed) ++ record { conclusion = ranged t l c; premises = last_steps n next_placed } ∷ []) number
-      ∙ ap (λ ss. ss ++ last ∷ []) (sym (steps_joined 0 front_placed next_placed) ∙ ap (steps_of_each 0) (sym (placed_joined t ls next us under.0 suit))) in
-      record {
-        proofs = joined front qs;
-        trees = us ++ under.0;
-        are = here.are;
-        are_trees = trees_joined front qs us under.0 front_trees under.1;
-        suit = subst (λ ms. PlacesSuit (ls ++ ms) (us ++ under.0)) nexts (places_joined ls next us under.0 suit own.suit);
-        whole =
-            whole
-            ∙ ap (λ ss. ss ++ done) listed
-            ∙ append_assoc (steps_of_each 0 (placed_proofs t (ls ++ next) (us ++ under.0))) (last ∷ []) done
-            ∙ (λ j. steps_of_each 0 (placed_proofs t (ls ++ nexts j) (us ++ under.0)) ++ last_is j ∷ done);
-      }
+other_here : (i : ℕ) (steps : List Step) (step own : Step) (behind done : List Step) → drop i steps ≡ step ∷ behind → (step ≡ own → ⊥) → DifferFrom i (drop i steps) (own ∷ done) i
+other_here i steps step own behind done rest other =
+    let none : i - i ≡ 0 = omega arith in (
+      omega arith,
+      ap (λ k. take k (drop i steps)) none ∙ sym (ap (λ k. take k (own ∷ done)) none),
+      (λ e.
+          let both : Some step ≡ Some own =
+          sym (ap (λ xs. slice_get xs 0) rest) ∙ sym (ap (λ k. slice_get (drop i steps) k) none) ∙ e ∙ ap (λ k. slice_get (own ∷ done) k) none in
+          other (same_Some step own both)),
+    )
 
-  went_back : (other : Option ℕ) (h : AreCompared t steps all (i + 1) (ls ++ l ∷ []) other) → IsBack t steps all i ls l step h.done
-  went_back other h =
-      let suit = places_apart ls l h.trees h.suit in
-      let trees = trees_apart h.proofs suit.0 suit.1 (h.are_trees ∙ ap Some suit.2) in
-      back trees.0 trees.1 suit.0 suit.1 h.done (h.are ∙ ap (steps_of_each 0) trees.2) trees.3 trees.4 suit.3 suit.4
-      (h.whole ∙ ap (λ ts. steps_of_each 0 (placed_proofs t (ls ++ l ∷ []) ts) ++ h.done) suit.2)
-
-  rest_of : drop i steps ≡ step ∷ drop (i + 1) steps
-  rest_of = rw add-one (rw (drop-cons steps i step inside) (ap (λ s. s ∷ drop (suc i) steps) (sym there)))
-
-  same_in_front : (own : Step) (done : List Step) (other : Option ℕ) → step ≡ own
-      → MatchOption other (drop (i + 1) steps ≡ done) (λ n. DifferFrom (i + 1) (drop (i + 1) steps) done n)
-      → MatchOption other (drop i steps ≡ own ∷ done) (λ n. DifferFrom i (drop i steps) (own ∷ done) n)
-  same_in_front own done None is h = rest_of ∙ (λ j. is j ∷ h j)
-  same_in_front own done (Some n) is h =
-      let far : n - i ≡ suc (n - (i + 1)) = (let le = h.0 in omega arith) in (
-        (let le = h.0 in omega arith),
-        ap (take (n - i)) rest_of ∙ ap (λ k. take k (step ∷ drop (i + 1) steps)) far ∙ (λ j. is j ∷ h.1 j) ∙ sym (ap (λ k. take k (own ∷ done)) far),
-        (λ e. h.2 (sym (ap (λ k. slice_get (step ∷ drop (i + 1) steps) k) far) ∙ sym (ap (λ xs. slice_get xs (n - i)) rest_of) ∙ e ∙ ap (λ k. slice_get (own ∷ done) k) far)),
-      )
-
-  other_here : (own : Step) (done : List Step) → (step ≡ own → ⊥) → DifferFrom i (drop i steps) (own ∷ done) i
-  other_here own done other =
-      let none : i - i ≡ 0 = omega arith in (
-        omega arith,
-        ap (λ k. take k (drop i steps)) none ∙ sym (ap (λ k. take k (own ∷ done)) none),
-        (λ e.
-            let both : Some step ≡ Some own =
-            sym (ap (λ xs. slice_get xs 0) rest_of) ∙ sym (ap (λ k. slice_get (drop i steps) k) none) ∙ e ∙ ap (λ k. slice_get (own ∷ done) k) none in
-            other (same_Some step own both)),
-      )
-
-  pub compared_same : (other : Option ℕ) → IsRanged t l step.conclusion → AreCompared t steps all (i + 1) (ls ++ l ∷ []) other
-      → AreCompared t steps all i (ls ++ places_for l (terms_under t l step.conclusion) (map (said_at steps) step.premises)) other
-  compared_same other is h =
-      let b = went_back other h in
-      let own : Step = record { conclusion = ranged t l step.conclusion; premises = step.premises } in
-      let same : step ≡ own = (λ j. record { conclusion = sym ((is_ranged t l step.conclusion).0 is) j; premises = step.premises }) in
-      record { proofs = b.proofs; trees = b.trees; are = b.are; are_trees = b.are_trees; suit = b.suit; done = own ∷ h.done; whole = b.whole; first = same_in_front own h.done other same h.first }
-
-  pub compared_other : (other : Option ℕ) → (IsRanged t l step.conclusion → ⊥) → AreCompared t steps all (i + 1) (ls ++ l ∷ []) other
-      → AreCompared t steps all i (ls ++ places_for l (terms_under t l step.conclusion) (map (said_at steps) step.premises)) (Some i)
-  compared_other other not_is h =
-      let b = went_back other h in
-      let own : Step = record { conclusion = ranged t l step.conclusion; premises = step.premises } in
-      record {
-        proofs = b.proofs;
-        trees = b.trees;
-        are = b.are;
-        are_trees = b.are_trees;
-        suit = b.suit;
-        done = own ∷ h.done;
-        whole = b.whole;
-        first = other_here own h.done (λ same. not_is ((is_ranged t l step.conclusion).1 (sym (ap (λ (s : Step). s.conclusion) same))));
-      }
-
--- ---- the first and the last state
-
-pub none_compared : (t : Table) (steps : List Step) (place : ℕ) (tree : TypingTree) → MakeTree steps tree
-    → AreCompared t steps (steps_of 0 (row_proof t place tree)) (length steps) (Some place ∷ []) None
-none_compared t steps place tree h = record {
-  proofs = proof_first h.whole no_proofs;
-  trees = of_typing tree ∷ [];
-  are = take_all (length steps) steps (omega arith) ∙ h.are_steps ∙ sym (append-nil (steps_of 0 h.whole));
-  are_trees = (let found = then_found if_typing (tree_in h.whole) tree h.is_tree in rw found.1 (ap (λ u. Some (u ∷ [])) (typing_tree found.0 found.2)));
-  suit = (tt, tt);
-  done = [];
-  whole = sym (append-nil (steps_of 0 (row_proof t place tree))) ∙ sym (append-nil (steps_of 0 (row_proof t place tree) ++ []));
-  first = drop_of_length-le steps (omega arith);
-}
-  where
-    typing_tree : (u : Tree) → if_typing u ≡ Some tree → u ≡ of_typing tree
-    typing_tree (of_typing p) e = ap (λ q. of_typing q) (same_Some p tree e)
-    typing_tree (of_subtyping q) e = let clash : None ≡ Some tree = e in absurd cc
-
-pub still_places : {A : Type 0} (t : Table) (steps all : List Step) (i : ℕ) (other : Option ℕ) → i < length steps → AreCompared t steps all (i + 1) [] other → A
-still_places t steps all i other inside h = go h.trees h.suit h.are_trees
-  where
-    empty : (ps : Proofs) → ps ≡ no_proofs → take (i + 1) steps ≡ steps_of_each 0 ps → length (take (i + 1) steps) ≡ 0
-    empty ps is are = ap length are ∙ ap (λ qs. length (steps_of_each 0 qs)) is
-
-    go : {A : Type 0} (ts : List Tree) → PlacesSuit [] ts → trees_in h.proofs ≡ Some ts → A
-    go [] suit e =
-        let none = empty h.proofs (no_trees h.proofs e) h.are in
-        let long = length-take-le (i + 1) steps (omega arith) in
-        absurd (omega arith)
-    go (u ∷ ts) suit e = absurd suit
-
-all_compared : (t : Table) (steps all : List Step) (ls : List (Option ℕ)) (other : Option ℕ) → AreCompared t steps all 0 ls other
-    → MatchOption other (steps ≡ all) (λ n. DifferFirst steps all n)
-all_compared t steps all ls other h = told other (subst (λ ss. MatchOption other (drop 0 steps ≡ ss) (λ n. DifferFrom 0 (drop 0 steps) ss n)) (sym (h.whole ∙ ap (λ ss. ss ++ h.done) (none ls h.trees h.suit (no_steps h.proofs h.are) h.are_trees))) h.first)
-  where
-    no_steps : (ps : Proofs) → take 0 steps ≡ steps_of_each 0 ps → ps ≡ no_proofs
-    no_steps no_proofs e = refl
-    no_steps (proof_first p ps) e =
-        let long = ap length e in
-        let a = length-append (steps_of 0 p) (steps_of_each (0 + steps_before p + 1) ps) in
-        let b = length_of_steps 0 p in
-        absurd (omega arith)
-
-    none : (ls : List (Option ℕ)) (ts : List Tree) → PlacesSuit ls ts → h.proofs ≡ no_proofs → trees_in h.proofs ≡ Some ts → steps_of_each 0 (placed_proofs t ls ts) ≡ []
-    none [] [] suit is e = refl
-    none [] (u ∷ ts) suit is e = absurd suit
-    none (l ∷ ls) [] suit is e = absurd suit
-    none (l ∷ ls) (u ∷ ts) suit is e = let clash : Some [] ≡ Some (u ∷ ts) = sym (ap trees_in is) ∙ e in absurd cc
-
-    told : (other : Option ℕ) → MatchOption other (drop 0 steps ≡ all) (λ n. DifferFrom 0 (drop 0 steps) all n) → MatchOption other (steps ≡ all) (λ n. DifferFirst steps all n)
-    told None k = k
-    told (Some n) k =
-        let same : n - 0 ≡ n = omega arith in
-        record {
-          same = subst (λ m. take m steps ≡ take m all) same k.1;
-          differ = λ e. k.2 (ap (λ m. slice_get steps m) same ∙ e ∙ sym (ap (λ m. slice_get all m) same));
-        }
+compared : (steps all : List Step) (other : Option ℕ) → MatchOption other (drop 0 steps ≡ all) (λ n. DifferFrom 0 (drop 0 steps) all n) → MatchOption other (steps ≡ all) (λ n. DifferFirst steps all n)
+compared steps all None k = k
+compared steps all (Some n) k =
+    let same : n - 0 ≡ n = omega arith in
+    record {
+      same = subst (λ m. take m steps ≡ take m all) same k.1;
+      differ = λ e. k.2 (ap (λ m. slice_get steps m) same ∙ e ∙ sym (ap (λ m. slice_get all m) same));
+    }
 
 -- ---- the code
 
@@ -415,54 +268,80 @@ one_placed own terms said ns k ps qs p all inside pushed is before =
     others : (terms : List ℕ) (k : ℕ) → others_of (drop k terms) ≡ drop (k + 1) terms
     others terms k = rw add-one (others_from terms k)
 
+pub begun_ranges : (t : Table) (steps : List RustStep) (place : ℕ) (tree : TypingTree) → MakeTree (map step_of steps) tree
+    → AreCompared t (map step_of steps) (steps_of 0 (row_proof t place tree)) (length steps - 0) (Some place ∷ []) None
+begun_ranges t steps place tree h =
+    let long : length (map step_of steps) ≡ length steps - 0 = (let l = length-map steps step_of in omega arith) in
+    record {
+      done = [];
+      are_read =
+          subst (λ n. AreRead (Option ℕ) Step PlaceSuits (placed_steps t) (map step_of steps) (steps_of 0 (row_proof t place tree)) n (Some place ∷ []) []) long
+          (none_read (Option ℕ) Step PlaceSuits (placed_steps t) (map step_of steps) (Some place) tree h tt);
+      first = drop_of_length-le (map step_of steps) (omega (arith, long));
+    }
+
 module _ (t : Table) (steps : List RustStep) (all : List Step) (back : ℕ) (ps qs rs : List (Option Place)) (own : Option Place) (x : RustStep) (other : Option ℕ)
     (inside : back < length steps) (popped : ps ≡ qs ++ own ∷ []) (there : x ≡ get_or steps (length steps - 1 - back) x)
-    (left : map number_of rs ≡ map number_of qs ++ places_for (number_of own) (terms_under t (number_of own) (step_of x).conclusion) (map (said_at (map step_of steps)) (step_of x).premises)) where
-  abbrev number : ℕ
-  number = length steps - 1 - back
+    (left : map number_of rs ≡ map number_of qs ++ under t (number_of own) (step_of x).conclusion (map (said_at (map step_of steps)) (step_of x).premises))
+    (w : AreCompared t (map step_of steps) all (length steps - back) (map number_of ps) other) where
+  one_more : (placed : Step) × AreRead (Option ℕ) Step PlaceSuits (placed_steps t) (map step_of steps) all (length steps - (back + 1)) (map number_of rs) (placed ∷ w.done)
+      × IsOwn t placed (number_of own) (step_of x).conclusion (map (said_at (map step_of steps)) (step_of x).premises) (step_of x).premises
+  one_more =
+      one_back (Option ℕ) Step PlaceSuits (placed_steps t) (under t) (IsOwn t) (placed t) steps all back w.done inside (map number_of ps) (map number_of qs) (map number_of rs) (number_of own) x
+      (ap (map number_of) popped ∙ map-append number_of qs (own ∷ [])) there left w.are_read
 
-  here : step_of x ≡ get_or (map step_of steps) number (step_of x)
-  here = ap step_of there ∙ sym (get_or-map step_of steps number x (step_of x) (omega arith))
+  next : length steps - back ≡ length steps - (back + 1) + 1
+  next = omega arith
 
-  before : AreCompared t (map step_of steps) all (length steps - back) (map number_of ps) other
-      → AreCompared t (map step_of steps) all (number + 1) (map number_of qs ++ number_of own ∷ []) other
-  before w =
-      let one : length steps - back ≡ number + 1 = omega arith in
-      subst (λ ls. AreCompared t (map step_of steps) all (number + 1) ls other) (ap (map number_of) popped ∙ map-append number_of qs (own ∷ []))
-      (subst (λ n. AreCompared t (map step_of steps) all n (map number_of ps) other) one w)
+  rest : drop (length steps - (back + 1)) (map step_of steps) ≡ step_of x ∷ drop (length steps - back) (map step_of steps)
+  rest =
+      let number : length steps - 1 - back ≡ length steps - (back + 1) = omega arith in
+      let here : step_of x ≡ get_or (map step_of steps) (length steps - (back + 1)) (step_of x) =
+      ap step_of there ∙ sym (get_or-map step_of steps (length steps - 1 - back) x (step_of x) (omega arith)) ∙ ap (λ n. get_or (map step_of steps) n (step_of x)) number in
+      let many : length steps - (back + 1) < length (map step_of steps) = (let long = length-map steps step_of in omega arith) in
+      let behind : suc (length steps - (back + 1)) ≡ length steps - back = omega arith in
+      drop-cons (map step_of steps) (length steps - (back + 1)) (step_of x) many
+      ∙ (λ j. sym here j ∷ drop (behind j) (map step_of steps))
 
-  after : (next : Option ℕ)
-      → AreCompared t (map step_of steps) all number
-      (map number_of qs ++ places_for (number_of own) (terms_under t (number_of own) (step_of x).conclusion) (map (said_at (map step_of steps)) (step_of x).premises)) next
-      → AreCompared t (map step_of steps) all (length steps - (back + 1)) (map number_of rs) next
-  after next w =
-      let one : number ≡ length steps - (back + 1) = omega arith in
-      subst (λ n. AreCompared t (map step_of steps) all n (map number_of rs) next) one (subst (λ ls. AreCompared t (map step_of steps) all number ls next) (sym left) w)
-
-  many : number < length (map step_of steps)
-  many = let long = length-map steps step_of in omega arith
-
-  pub stepped_same : IsRanged t (number_of own) (step_of x).conclusion
-      → AreCompared t (map step_of steps) all (length steps - back) (map number_of ps) other → AreCompared t (map step_of steps) all (length steps - (back + 1)) (map number_of rs) other
-  stepped_same is w = after other (compared_same t (map step_of steps) all number (map number_of qs) (number_of own) (step_of x) many here other is (before w))
+  pub stepped_same : IsRanged t (number_of own) (step_of x).conclusion → AreCompared t (map step_of steps) all (length steps - (back + 1)) (map number_of rs) other
+  stepped_same is =
+      let conclusion = (is_ranged t (number_of own) (step_of x).conclusion).0 is in
+      record {
+        done = one_more.0 ∷ w.done;
+        are_read = one_more.1;
+        first = same_in_front (length steps - (back + 1)) (length steps - back) (map step_of steps) (step_of x) one_more.0 w.done other next rest
+            (sym (one_more.2 ∙ (λ j. record { conclusion = conclusion j; premises = (step_of x).premises }))) w.first;
+      }
 
   pub stepped_other : (IsRanged t (number_of own) (step_of x).conclusion → ⊥)
-      → AreCompared t (map step_of steps) all (length steps - back) (map number_of ps) other → AreCompared t (map step_of steps) all (length steps - (back + 1)) (map number_of rs) (Some number)
-  stepped_other not_is w = after (Some number) (compared_other t (map step_of steps) all number (map number_of qs) (number_of own) (step_of x) many here other not_is (before w))
+      → AreCompared t (map step_of steps) all (length steps - (back + 1)) (map number_of rs) (Some (length steps - 1 - back))
+  stepped_other not_is =
+      let here : length steps - (back + 1) ≡ length steps - 1 - back = omega arith in
+      record {
+        done = one_more.0 ∷ w.done;
+        are_read = one_more.1;
+        first = subst (DifferFrom (length steps - (back + 1)) (drop (length steps - (back + 1)) (map step_of steps)) (one_more.0 ∷ w.done)) here
+            (other_here (length steps - (back + 1)) (map step_of steps) (step_of x) one_more.0 (drop (length steps - back) (map step_of steps)) w.done rest
+            (λ same. not_is ((is_ranged t (number_of own) (step_of x).conclusion).1 (sym (ap (λ (s : Step). s.conclusion) (same ∙ one_more.2))))));
+      }
 
 pub nothing_placed : {A : Type 0} (t : Table) (steps : List RustStep) (all : List Step) (back : ℕ) (ps : List (Option Place)) (other : Option ℕ)
     → back < length steps → (0 < length ps → false ≡ true) → AreCompared t (map step_of steps) all (length steps - back) (map number_of ps) other → A
-nothing_placed t steps all back [] other inside none w =
-    let one : length steps - back ≡ length steps - 1 - back + 1 = omega arith in
-    let long = length-map steps step_of in
-    still_places t (map step_of steps) all (length steps - 1 - back) other (omega arith) (subst (λ n. AreCompared t (map step_of steps) all n [] other) one w)
-nothing_placed t steps all back (p ∷ ps) other inside none w = let clash : false ≡ true = none (omega arith) in absurd cc
+nothing_placed t steps all back ps other inside none w = none_pending (Option ℕ) Step PlaceSuits (placed_steps t) steps all back w.done number_of ps inside none w.are_read
+
+all_compared : (t : Table) (steps all : List Step) (n : ℕ) (ls : List (Option ℕ)) (other : Option ℕ) → n ≡ 0 → AreCompared t steps all n ls other
+    → MatchOption other (steps ≡ all) (λ k. DifferFirst steps all k)
+all_compared t steps all n ls other none w =
+    let start = subst (λ m. AreRead (Option ℕ) Step PlaceSuits (placed_steps t) steps all m ls w.done) none w.are_read in
+    let first = subst (λ m. MatchOption other (drop m steps ≡ w.done) (λ k. DifferFrom m (drop m steps) w.done k)) none w.first in
+    compared steps all other
+    (subst (λ ss. MatchOption other (drop 0 steps ≡ ss) (λ k. DifferFrom 0 (drop 0 steps) ss k)) (sym (all_read (Option ℕ) Step PlaceSuits (placed_steps t) steps all ls w.done start)) first)
 
 -- of a term of a text
-pub ranges_told : (commands : List CommandTree) (scopes : Scopes) (place : ℕ) (steps : List Step) (tree : TypingTree) (ls : List (Option ℕ)) (other : Option ℕ) → AreScopesOf scopes commands
-    → AreCompared (table_of scopes) steps (steps_of 0 (row_proof (table_of scopes) place tree)) 0 ls other
-    → let all = steps_of 0 (typing_proof (term_in (document_terms commands) place) tree) in MatchOption other (steps ≡ all) (λ n. DifferFirst steps all n)
-ranges_told commands scopes place steps tree ls other are w =
-    subst (λ all. MatchOption other (steps ≡ all) (λ n. DifferFirst steps all n))
+pub ranges_told : (commands : List CommandTree) (scopes : Scopes) (place : ℕ) (steps : List Step) (tree : TypingTree) (n : ℕ) (ls : List (Option ℕ)) (other : Option ℕ) → AreScopesOf scopes commands → n ≡ 0
+    → AreCompared (table_of scopes) steps (steps_of 0 (row_proof (table_of scopes) place tree)) n ls other
+    → let all = steps_of 0 (typing_proof (term_in (document_terms commands) place) tree) in MatchOption other (steps ≡ all) (λ k. DifferFirst steps all k)
+ranges_told commands scopes place steps tree n ls other are none w =
+    subst (λ all. MatchOption other (steps ≡ all) (λ k. DifferFirst steps all k))
     (ap (λ t. steps_of 0 (row_proof t place tree)) are.same_table ∙ ap (steps_of 0) (same_proof commands place tree))
-    (all_compared (table_of scopes) steps (steps_of 0 (row_proof (table_of scopes) place tree)) ls other w)
+    (all_compared (table_of scopes) steps (steps_of 0 (row_proof (table_of scopes) place tree)) n ls other none w)

@@ -14,10 +14,10 @@ use Rattle.lam_scope.specs.declared.scopes.Scopes.{Scopes}
 use Rattle.lam_query.specs.Commands.{AreCommandsOfText}
 use Rattle.lam_query.specs.Derivations.{Derivation}
 use Rattle.lam_query.specs.Sizes.{IsSizeFault, IsSmall}
-use Rattle.lam_query.specs.Steps.{Step, typing_proof}
+use Rattle.lam_query.specs.Steps.{Step, typing_proof, last_span}
 use Rattle.lam_query.proofs.OneAnswer.{one_document}
 use Rattle.lam_query.proofs.ReadTrees.{tree_read}
-use Rattle.lam_query.specs.FirstFaults.{DifferFirst, IsFaultAt, IsFaultIn, IsFirstFault, IsFirstMisplaced, IsFirstWithRange, IsResult, MakeTree, AreOfOneProof, AreOfProofs, HasRange, last_span}
+use Rattle.lam_query.specs.FirstFaults.{DifferFirst, IsFaultAt, IsFaultIn, IsFirstFault, IsFirstMisplaced, IsFirstWithRange, IsResult, AreOfOneProof, AreOfProofs, HasRange}
 use Rattle.lam_query.specs.Verified.{IsProofAt, IsVerified}
 use Rattle.lam_query.specs.declared.answers.FirstFault.{FirstFault}
 use Rattle.lam_query.specs.declared.answers.FirstFault.TheVariants as faults
@@ -25,6 +25,7 @@ use Rattle.lam_query.specs.inner.Verifying.{IsOfSomeTerm, IsResultIn}
 use Rattle.lam_query.proofs.Misplaced.{one_is_placed, never_empty}
 use Rattle.lam_query.proofs.OneFault.{one_fault}
 use Rattle.lam_query.proofs.Verifying.{ends_with_span, row_written, span_there, too_large, written_there}
+use Rattle.lam_query.specs.ProofTrees.{MakeTree}
 
 -- ---- the terms of commands, one by one
 

@@ -11,7 +11,7 @@ use Rattle.lam_query.specs.inner.Placing.{IsTypingSaid, IsSubtypingSaid, AreSubt
 use Rattle.std.proofs.Math.ListN.{drop_of_length-le}
 use Rattle.lam_query.proofs.PendingProofs.{drop_here}
 use Rattle.lam_query.proofs.JoinedProofs.{then_found, map_found, joined}
-use Rattle.lam_query.proofs.StepByStep.{conclusions_of, AlikeEach, trees_alike, trees_joined}
+use Rattle.lam_query.proofs.Backwards.{conclusions_of, AlikeEach, trees_alike, trees_joined}
 
 abbrev pub HaveTrees : Proofs → Type 0
 HaveTrees ps = (ts : List Tree) × (trees_in ps ≡ Some ts)

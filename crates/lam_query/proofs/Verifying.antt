@@ -1,6 +1,6 @@
 -- Derivations that are held against a text.
 use Rattle.std.proofs.Common.{◌≡◌, ℕ, ◌+◌, ◌-◌, ◌<◌, ◌≤◌, zero, suc, List, [], ◌∷◌, ◌++◌, length, get_or, map, take, reverse, Option, Some, None, option_map, Result, Ok, Err, IfOk, Bool, true, false, not, IsTrue, true≢false, refl, sym, ap, subst, ◌∙◌, arith}
-use Rattle.std.proofs.lemmas.List.{length-map, reverse-append, reverse-reverse, take_more, take_all, map-append}
+use Rattle.std.proofs.lemmas.List.{length-map, reverse-append, take_more, take_all, map-append}
 use Rattle.std.proofs.lemmas.Simd.{map-map}
 use Rattle.std.proofs.lemmas.Option.{same_Some}
 use Rattle.std.specs.Str.{bytes_eq}
@@ -27,18 +27,16 @@ use Rattle.std.specs.List.{slice_get}
 use Rattle.lam_query.specs.declared.answers.Step.{Step as RustStep}
 use Rattle.lam_query.specs.Views.{step_of}
 use Rattle.lam_query.specs.Derivations.{Derivation, names_seen}
-use Rattle.lam_query.specs.ProofTrees.{typing_tree_in}
-use Rattle.lam_query.specs.Steps.{typing, Step, steps_of, steps_of_each, last_steps, typing_proof, typing_proofs, premise_terms, with_side}
+use Rattle.lam_query.specs.ProofTrees.{typing_tree_in, MakeTree}
+use Rattle.lam_query.specs.Steps.{typing, Step, steps_of, steps_of_each, last_steps, typing_proof, typing_proofs, premise_terms, with_side, span_in, last_conclusion, last_span}
 use Rattle.lam_query.specs.WellTypedDocuments.{statements_in}
-use Rattle.lam_typing.specs.Contexts.{IsContext}
 use Rattle.lam_query.specs.Commands.{AreCommandsOfText}
 use Rattle.lam_query.specs.Sizes.{IsSizeFault}
 use Rattle.lam_query.proofs.OneAnswer.{one_document}
 use Rattle.lam_query.proofs.OneProof.{one_proof_of_steps}
 use Rattle.lam_query.proofs.ReadTrees.{tree_read}
 use Rattle.lam_query.proofs.RowsAndTerms.{span_told, names_told, number_told}
-use Rattle.lam_query.specs.Verified.{IsProofOf, IsVerified}
-use Rattle.lam_query.specs.FirstFaults.{HasContext, MakeTree, entries_listed, span_in, last_conclusion, last_span}
+use Rattle.lam_query.specs.Verified.{IsProofOf, IsVerified, HasContext, entries_listed}
 
 -- the context of entries
 context_reversed : (entries : List (Option Ty)) → context_of entries ≡ reverse (map written_of entries)
@@ -103,14 +101,8 @@ entries_are_listed entries derivation types = context_reversed entries ∙ ap re
 -- ---- a derivation about this term, and what the tests say of it
 
 module _ (term : PlacedTree) (derivation : Derivation) (d : Dialect) where
-  entries_are : (h : IsProofOf term derivation d) → h.entries ≡ entries_listed derivation
-  entries_are h = sym (reverse-reverse h.entries) ∙ ap reverse (sym h.types)
-
-  pub context_is : IsProofOf term derivation d → IsContext (term_of term).place.scope (entries_listed derivation) d
-  context_is h = subst (λ g. IsContext (term_of term).place.scope g d) (entries_are h) h.context
-
   pub proof_is : (made : TypingTree) → MakeTree derivation.steps made → IsProofOf term derivation d → IsTyping (entries_listed derivation) (term_of term).place.here made d
-  proof_is made makes h = rw (entries_are h, one_tree derivation.steps made h.tree term makes h.steps) at h.proof
+  proof_is made makes h = rw (one_tree derivation.steps made h.tree term makes h.steps) at h.proof
 
   pub steps_are : (made : TypingTree) → MakeTree derivation.steps made → IsProofOf term derivation d → derivation.steps ≡ steps_of 0 (typing_proof term made)
   steps_are made makes h = h.steps ∙ ap (λ t. steps_of 0 (typing_proof term t)) (one_tree derivation.steps made h.tree term makes h.steps)
@@ -119,10 +111,7 @@ module _ (term : PlacedTree) (derivation : Derivation) (d : Dialect) where
       → derivation.steps ≡ steps_of 0 (typing_proof term made) → IsProofOf term derivation d
   is_proof made written has proof steps = record {
     written = written;
-    entries = entries_listed derivation;
-    context = has.context;
-    names = has.names;
-    types = sym (reverse-reverse (map (λ x. x.type) derivation.context));
+    has_context = has;
     tree = made;
     proof = proof;
     steps = steps;

@@ -1,5 +1,5 @@
 -- What is wrong first with a derivation that is not verified. Steps and entries are counted from 0, entries from the outermost.
-use Rattle.std.specs.Prelude.{◌≡◌, ◌≢◌, ◌⊎◌, ℕ, suc, ◌<◌, List, [], ◌∷◌, length, take, map, reverse, slice_get, Option, Some, None, true}
+use Rattle.std.specs.Prelude.{◌≡◌, ◌≢◌, ◌⊎◌, ℕ, suc, ◌<◌, List, [], ◌∷◌, length, take, slice_get, Option, Some, None, true}
 use Rattle.lam_token.specs.declared.span.Span.{Span}
 use Rattle.lam_rules.specs.Typing.{Context, TypingTree, IsTyping}
 use Rattle.lam_rules.specs.declared.rules.Dialect.{Dialect}
@@ -8,12 +8,12 @@ use Rattle.lam_scope.specs.Places.{Scope}
 use Rattle.lam_scope.specs.PlacedTerms.{PlacedTree, document_terms, term_of, tree_in}
 use Rattle.lam_typing.specs.Contexts.{Fits, IsContext}
 use Rattle.lam_query.specs.Commands.{AreCommandsOfText}
-use Rattle.lam_query.specs.Derivations.{Derivation, names_seen}
-use Rattle.lam_query.specs.ProofTrees.{typing_tree_in}
+use Rattle.lam_query.specs.Derivations.{Derivation}
+use Rattle.lam_query.specs.ProofTrees.{MakeTree}
 use Rattle.lam_query.specs.Sizes.{IsSizeFault, IsSmall, span_numbered}
-use Rattle.lam_query.specs.Steps.{Conclusion, typing, subtyping, Proof, Proofs, Step, steps_of, steps_of_each, typing_proof}
+use Rattle.lam_query.specs.Steps.{Proofs, Step, last_span, steps_of, steps_of_each, typing_proof}
 use Rattle.lam_query.specs.Judgements.{judgements, IsFirstFailing}
-use Rattle.lam_query.specs.Verified.{IsVerified}
+use Rattle.lam_query.specs.Verified.{HasContext, HasNames, IsVerified, entries_listed}
 use Rattle.lam_query.specs.declared.answers.FirstFault.{FirstFault}
 use Rattle.lam_query.specs.declared.answers.FirstFault.TheVariants as faults
 
@@ -24,45 +24,15 @@ pub record AreOfProofs (steps : List Step) : Type 0 where
   pub proofs : Proofs
   pub are : steps ≡ steps_of_each 0 proofs
 
--- This step is the first whose premises are not the last steps of the proofs directly before it: those before it are of proofs, and no first steps that include it are.
+-- This step is the first whose premises are not the last steps of the proofs directly before it: the steps before it are of proofs; with it, they are not.
 pub record IsFirstMisplaced (steps : List Step) (number : ℕ) : Type 0 where
   pub inside : number < length steps
   pub before : AreOfProofs (take number steps)
-  pub not_with_it : (n : ℕ) → number < n → AreOfProofs (take n steps) → ⊥
-
--- The steps are those of one proof of typing, which has this tree.
-pub record MakeTree (steps : List Step) (tree : TypingTree) : Type 0 where
-  pub whole : Proof
-  pub are_steps : steps ≡ steps_of 0 whole
-  pub is_tree : typing_tree_in whole ≡ Some tree
-
--- the span of the term that a typing conclusion is about
-abbrev pub span_in : Option Conclusion → Option Span
-span_in None = None
-span_in (Some (typing rule s type)) = Some s
-span_in (Some (subtyping rule lower upper)) = None
-
--- the last conclusion
-abbrev pub last_conclusion : List Step → Option Conclusion
-last_conclusion [] = None
-last_conclusion (s ∷ []) = Some s.conclusion
-last_conclusion (s ∷ t ∷ steps) = last_conclusion (t ∷ steps)
-
--- the range of the last step
-abbrev pub last_span : List Step → Option Span
-last_span steps = span_in (last_conclusion steps)
+  pub not_with_it : AreOfProofs (take (suc number) steps) → ⊥
 
 -- ---- as a derivation about one term
 
--- the entries of the context, innermost first
-abbrev pub entries_listed : Derivation → Context
-entries_listed x = reverse (map (λ e. e.type) x.context)
-
--- the context lists the names in scope at the term
-abbrev pub HasNames : PlacedTree → Derivation → Type 0
-HasNames term x = map (λ e. e.name) x.context ≡ names_seen term
-
--- The outermost entry that does not fit its binder has this index: it is further out, or else it is the innermost one.
+-- The outermost entry that does not fit its binder has this index: it is among the entries further out or, if those all fit, the innermost one.
 abbrev pub IsFirstUnfitEntry : Scope → Context → Dialect → ℕ → Type 0
 IsFirstUnfitEntry (b ∷ outside) (entry ∷ g) d number =
     IsFirstUnfitEntry outside g d number ⊎ (IsContext outside g d × (Fits b (λ h. IsContext outside h d) entry d → ⊥) × (number ≡ length outside))
@@ -72,11 +42,6 @@ IsFirstUnfitEntry _ _ d number = ⊥
 pub record DifferFirst (xs ys : List Step) (number : ℕ) : Type 0 where
   pub same : take number xs ≡ take number ys
   pub differ : slice_get xs number ≢ slice_get ys number
-
--- The context has the names in scope at the term, each with an entry that fits.
-pub record HasContext (term : PlacedTree) (x : Derivation) (d : Dialect) : Type 0 where
-  pub names : HasNames term x
-  pub context : IsContext (term_of term).place.scope (entries_listed x) d
 
 -- what is wrong first with a derivation as one about this term: the names in its context, its entries, the steps by their rules, or their ranges
 abbrev pub IsFaultAt : PlacedTree → Derivation → Dialect → FirstFault → Type 0

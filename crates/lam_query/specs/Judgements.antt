@@ -51,10 +51,6 @@ abbrev pub Each : (Judgement → Type 0) → List Judgement → Type 0
 Each P [] = Unit {0}
 Each P (j ∷ js) = P j × Each P js
 
--- all of these judgements follow
-abbrev pub AllFollow : Dialect → List Judgement → Type 0
-AllFollow d js = Each (Follows d) js
-
 -- what the steps of a subtyping proof say, in their order
 abbrev mutual
   pub sub_judgements : SubTree → List Judgement

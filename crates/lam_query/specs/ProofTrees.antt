@@ -1,11 +1,11 @@
 -- The typing tree that a tree of conclusions proves. Which terms the conclusions are about does not matter.
-use Rattle.std.specs.Prelude.{List, [], ◌∷◌, Option, Some, None, option_map}
+use Rattle.std.specs.Prelude.{◌≡◌, List, [], ◌∷◌, Option, Some, None, option_map}
 use Rattle.std.specs.Option.{option_and_then}
 use Rattle.lam_rules.specs.Subtyping.{SubTree, sub_step}
 use Rattle.lam_rules.specs.SubViews.{sub_trees_made}
 use Rattle.lam_rules.specs.Typing.{TypingTree, typing_step}
 use Rattle.lam_rules.specs.TypingViews.{typings_made}
-use Rattle.lam_query.specs.Steps.{Conclusion, typing, subtyping, Proof, concludes, Proofs, no_proofs, proof_first}
+use Rattle.lam_query.specs.Steps.{Conclusion, typing, subtyping, Proof, concludes, Proofs, no_proofs, proof_first, Step, steps_of}
 
 -- a tree of typing or of subtyping
 pub data Tree : Type 0 where
@@ -54,3 +54,9 @@ if_typing (of_subtyping q) = None
 -- typing.
 abbrev pub typing_tree_in : Proof → Option TypingTree
 typing_tree_in p = option_and_then if_typing (tree_in p)
+
+-- The steps are those of one proof of typing, which has this tree.
+pub record MakeTree (steps : List Step) (tree : TypingTree) : Type 0 where
+  pub whole : Proof
+  pub are_steps : steps ≡ steps_of 0 whole
+  pub is_tree : typing_tree_in whole ≡ Some tree

@@ -69,7 +69,7 @@ with_side ps None = ps
 with_side no_proofs (Some q) = proof_first (sub_proof q) no_proofs
 with_side (proof_first p ps) (Some q) = proof_first p (with_side ps (Some q))
 
--- the terms that the premises of a step are about: the parts of the term, except for T-Sub the term itself
+-- the terms that the premises of a step are about: the parts of the term or, for T-Sub, the term itself
 abbrev pub premise_terms : TypeRule → PlacedTree → PlacedTrees
 premise_terms TypeRule.Sub t = one_part t
 premise_terms rule t = parts_of t
@@ -84,3 +84,21 @@ abbrev mutual
   typing_proofs t parts no_typings = no_proofs
   typing_proofs t no_parts (typing_first p ps) = proof_first (typing_proof t p) (typing_proofs t no_parts ps)
   typing_proofs t (part_first part parts) (typing_first p ps) = proof_first (typing_proof part p) (typing_proofs t parts ps)
+
+-- ---- the last step of a list
+
+-- the span of the term that a typing conclusion is about
+abbrev pub span_in : Option Conclusion → Option Span
+span_in None = None
+span_in (Some (typing rule s type)) = Some s
+span_in (Some (subtyping rule lower upper)) = None
+
+-- the last conclusion
+abbrev pub last_conclusion : List Step → Option Conclusion
+last_conclusion [] = None
+last_conclusion (s ∷ []) = Some s.conclusion
+last_conclusion (s ∷ t ∷ steps) = last_conclusion (t ∷ steps)
+
+-- the range of the last step
+abbrev pub last_span : List Step → Option Span
+last_span steps = span_in (last_conclusion steps)

@@ -26,6 +26,7 @@ pub mod StandIns
 pub mod SeenBinders
 pub mod Typings
 pub mod Explained
+pub mod Backwards
 pub mod Walking
 pub mod Placing
 pub mod Ranges

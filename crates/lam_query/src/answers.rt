@@ -55,17 +55,17 @@ pub enum CommandType {
     Term(Option<String>),
 }
 
-/// A proof that a term has a type.
+/// A context and a list of steps. `derivation` returns one that proves that a term has its least type; `first_fault` takes any.
 #[derive(Drop)]
 pub struct Derivation {
-    /// The binders in scope at the term, outermost first, shadowed ones and `_` included: the name of each, and its least type,
-    /// or `None` if it has no type.
+    /// The binders in scope at the term, outermost first, shadowed ones and `_` included: the name of each, and its type, or
+    /// `None` if it has no type. In what `derivation` returns, the types are the least ones.
     pub context: Vec<(String, Option<Ty>)>,
     /// The steps of the proof, each after its premises; the last one concludes the type of the term.
     pub steps: Vec<Step>,
 }
 
-/// A step of a proof. Its premises are zero-based indices into the list of steps.
+/// A step of a derivation. Its premises are zero-based indices into the list of steps.
 #[derive(Drop)]
 pub enum Step {
     /// The term at the span has the type. A use of subsumption has the span of its term.
@@ -103,6 +103,6 @@ pub enum FirstFault {
     Entry(usize),
     /// This step does not follow by its rule from its premises.
     Step(usize),
-    /// This step has another range than the term that it is about.
+    /// This step does not have the range of the term that it is about.
     Range(usize),
 }

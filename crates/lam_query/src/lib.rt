@@ -2,8 +2,8 @@
 //! derivation of it; the definition, the references and a rename of the name there; the completions there; and what is wrong first
 //! with a derivation that somebody else made.
 //!
-//! Each answer is a function of the text, an offset and the dialect, except the derivation, which may be any that the rules
-//! accept. Offsets and spans are byte offsets into the UTF-8 text.
+//! Each answer is a function of the text, an offset and the dialect, except the derivation, which may be any proof of the least type
+//! in the context of least types. Offsets and spans are byte offsets into the UTF-8 text.
 #![tactic(auto)]
 
 mod analyses;
@@ -21,11 +21,11 @@ mod derivations;
 mod ends;
 mod entries;
 mod fields;
-mod first_faults;
 mod fronts;
 mod hovers;
 mod laws;
 mod mismatches;
+mod misplaced_steps;
 mod pieces;
 mod ranges;
 mod reading;

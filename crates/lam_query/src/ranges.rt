@@ -7,11 +7,12 @@ ghost use Rattle.lam_scope.specs.PlacedTerms.{document_terms, tree_in};
 ghost use Rattle.lam_scope.specs.TableViews.{place_number};
 ghost use Rattle.lam_scope.specs.Views.{AreScopesOf, table_of};
 ghost use Rattle.lam_syntax.specs.Trees.{CommandTree};
-ghost use Rattle.lam_query.specs.FirstFaults.{DifferFirst, MakeTree};
+ghost use Rattle.lam_query.specs.FirstFaults.{DifferFirst};
 ghost use Rattle.lam_query.specs.Steps.{steps_of, typing_proof};
 ghost use Rattle.lam_query.specs.Views.{step_of};
 ghost use Rattle.lam_query.specs.inner.Ranges.{IsRanged, number_of, place_for, places_for, terms_under};
-ghost use Rattle.lam_query.specs.inner.Walking.{said_at, said_by};
+ghost use Rattle.lam_query.specs.inner.Backwards.{said_at, said_by};
+ghost use Rattle.lam_query.specs.ProofTrees.{MakeTree};
 
 use crate::answers::Step;
 use crate::steps::{place_or, premise_places, premises_of, step_at};
@@ -30,7 +31,7 @@ pub(crate) fn first_misranged(
         → let all = steps_of 0 (typing_proof (tree_in (document_terms commands) place.0) tree) in
         MatchOption found (map step_of steps.now ≡ all) (λ number. DifferFirst (map step_of steps.now) all number)) }
 {
-    // What the proofs are about whose steps are still to be read; those of subtyping are about no term.
+    // What each proof is about whose steps are still to be read; a proof of subtyping is about no term.
     let mut pending: Vec<Option<Place>> = Vec::new(alloc);
     pending.push(Some(place))?;
     let mut other = None;
@@ -98,7 +99,7 @@ fn push_places(
     Ok(())
 }
 
-/// What premise `k` is about that this step concludes.
+/// What premise `k`, which this step concludes, is about.
 fn place_of(own: Option<Place>, terms: &[Place], k: usize, premise: Option<&Step>) -> Option<Place>
     ensures { number_of result ≡ place_for (number_of own) (drop k (map place_number terms.now)) (said_by premise.entry) }
 {

@@ -14,7 +14,7 @@ ghost use Rattle.lam_query.specs.inner.RowSteps.{premise_places, row_proof, row_
 ghost use Rattle.lam_query.specs.Within.{IsSpanOfText};
 ghost use Rattle.lam_query.specs.Views.{step_of, StepStandsIn};
 ghost use Rattle.lam_query.specs.inner.Listing.{AreListed};
-ghost use Rattle.lam_query.specs.inner.Walking.{said_at, said_by};
+ghost use Rattle.lam_query.specs.inner.Backwards.{said_at, said_by};
 
 use crate::answers::Step;
 use lam_rules::{SubProof, TypeProof, TypeRule, copy_of};

@@ -19,15 +19,16 @@ ghost use Rattle.lam_syntax.specs.Trees.{CommandTree};
 ghost use Rattle.lam_typing.specs.Contexts.{IsContext};
 ghost use Rattle.lam_typing.specs.Fitting.{FitsAt};
 ghost use Rattle.lam_typing.specs.Typings.{dialect_of};
-ghost use Rattle.lam_query.specs.Steps.{typing, subtyping};
+ghost use Rattle.lam_query.specs.Steps.{typing, subtyping, last_span, span_in};
 ghost use Rattle.lam_query.specs.Views.{derivation_of, entry_of, step_of};
-ghost use Rattle.lam_query.specs.FirstFaults.{DifferFirst, IsFirstUnfitEntry, IsResult, entries_listed, last_span, span_in};
+ghost use Rattle.lam_query.specs.FirstFaults.{DifferFirst, IsFirstUnfitEntry, IsResult};
 ghost use Rattle.lam_query.specs.Judgements.{IsFirstFailing, judgements};
 ghost use Rattle.lam_query.specs.inner.Verifying.{IsClaim, IsFirstNot, IsResultAt, IsResultIn, IsTextOf};
+ghost use Rattle.lam_query.specs.Verified.{entries_listed};
 
 use crate::answers::{Derivation, FirstFault, Step};
 use crate::commands::commands_of;
-use crate::first_faults::{Placing, placing_of};
+use crate::misplaced_steps::{Placing, placing_of};
 use crate::ranges::first_misranged;
 use crate::typings::{Types, types_of};
 use crate::wrong_steps::{copy_of_entry, first_wrong};
@@ -117,8 +118,8 @@ fn entries_of(
 }
 
 impl TypedText {
-    /// The first error in a claim about the first term with the range of the last step, or `None` if it is about a term with that
-    /// range.
+    /// The first error in a claim about the first term with the range of the last step, or `None` if it is a valid proof about a
+    /// term with that range.
     fn fault_of(&self, alloc: Global, claim: &Claim<'_>) -> Result<Option<FirstFault>, AllocError>
         requires { IsClaim claim.now }
         ensures { IfOk result (λ fault. (commands : List CommandTree) → IsTextOf commands self.now
@@ -139,7 +140,7 @@ impl TypedText {
         Ok(Some(first.unwrap_or(FirstFault::NoTerm(last))))
     }
 
-    /// The first error in a claim about the term with this id, or `None` if it is about that term.
+    /// The first error in a claim about the term with this id, or `None` if it is a valid proof about that term.
     fn fault_at(
         &self,
         alloc: Global,

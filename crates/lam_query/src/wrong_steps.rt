@@ -1,7 +1,8 @@
 //! The first step of a derivation that does not follow by its rule.
 //!
 //! Each step is checked by itself, from the last one down: it tells what its premises are about, these tell the same of theirs, and
-//! so on. No tree is built and nothing recurses, so that steps may follow from each other on any number of levels.
+//! so on. The tree of the whole proof is not built, and nothing recurses from step to step, so that steps may follow from each other
+//! on any number of levels.
 ghost use Rattle.std.specs.Prelude.{◌≡◌, ◌≤◌, ◌↔◌, ◌∷◌, ◌++◌, List, [], Option, Some, IsTrue, IfOk, OnOk, MatchOption, length, map, option_map, replicate, slice_get, take};
 ghost use Rattle.lam_token.specs.declared.span.Span.{Span};
 ghost use Rattle.lam_rules.specs.Parts.{subject_in};
@@ -16,11 +17,12 @@ ghost use Rattle.lam_rules.specs.TypingViews.{context_of, types_concluded, typin
 ghost use Rattle.lam_rules.specs.declared.rules.Dialect.{Dialect};
 ghost use Rattle.lam_rules.specs.declared.rules.TypeRule.{TypeRule as Rule};
 ghost use Rattle.lam_rules.specs.declared.types.Ty.{Ty as RustTy};
-ghost use Rattle.lam_query.specs.FirstFaults.{MakeTree};
-ghost use Rattle.lam_query.specs.Judgements.{AllFollow, IsFirstFailing, judgements};
+ghost use Rattle.lam_query.specs.Judgements.{IsFirstFailing, judgements};
 ghost use Rattle.lam_query.specs.Steps.{typing};
 ghost use Rattle.lam_query.specs.Views.{step_of};
-ghost use Rattle.lam_query.specs.inner.Walking.{AreKnown, IsKnown, IsRight, IsTop, claims_said, first_said, last_claim, left_for, left_of, lefts_for, lefts_under, of_subtypes, said_at, said_by, types_said, typing_of};
+ghost use Rattle.lam_query.specs.inner.Backwards.{said_at, said_by};
+ghost use Rattle.lam_query.specs.inner.Walking.{AreKnown, IsKnown, IsRight, IsTop, claims_said, first_said, last_claim, left_for, left_of, lefts_for, lefts_under, of_subtypes, types_said, typing_of, AllFollow};
+ghost use Rattle.lam_query.specs.ProofTrees.{MakeTree};
 
 use crate::answers::Step;
 use crate::steps::{premises_of, step_at};
@@ -38,7 +40,7 @@ struct Seen<'a> {
     part: Part<'a>,
 }
 
-/// What a proof is about whose steps are still to be checked.
+/// What a proof is about, if its steps are still to be checked.
 #[derive(Clone, Copy)]
 enum Pending<'a> {
     Typing(Seen<'a>),
@@ -65,7 +67,7 @@ struct Parent<'a> {
     first: Option<&'a Ty>,
 }
 
-/// Premises of a step, without theirs.
+/// Premises of a step, without premises of their own.
 #[derive(Drop)]
 struct Premises {
     typings: Vec<TypeProof>,
@@ -288,7 +290,7 @@ fn push_premises<'a>(
     Ok(())
 }
 
-/// What premise `k` is about that this step concludes.
+/// What premise `k`, which this step concludes, is about.
 fn premise_of<'a>(parent: Parent<'a>, k: usize, step: Option<&'a Step>) -> Pending<'a>
     ensures left { (g : List (Option RustTy)) → length g ≡ parent.entry.depth
         → left_of g result ≡ left_for (slice_get (subjects parent.entry.rule (context_of g) (term_of parent.entry.term.now) (lent_of parent.entry.first)) k) (said_by step.entry) }

@@ -1,10 +1,11 @@
 -- How steps follow from each other. For private functions alone.
 use Rattle.std.specs.Prelude.{◌≡◌, List, [], ◌∷◌, Option, Some, None}
-use Rattle.lam_query.specs.FirstFaults.{AreOfOneProof, AreOfProofs, IsFirstMisplaced, MakeTree}
+use Rattle.lam_query.specs.FirstFaults.{AreOfOneProof, AreOfProofs, IsFirstMisplaced}
 use Rattle.lam_query.specs.Steps.{Conclusion, typing, subtyping, Step}
-use Rattle.lam_query.specs.declared.first_faults.Placing.{Placing}
-use Rattle.lam_query.specs.declared.first_faults.Placing.TheVariants as placing
+use Rattle.lam_query.specs.declared.misplaced_steps.Placing.{Placing}
+use Rattle.lam_query.specs.declared.misplaced_steps.Placing.TheVariants as placing
 use Rattle.lam_rules.specs.Typing.{TypingTree}
+use Rattle.lam_query.specs.ProofTrees.{MakeTree}
 
 -- something was concluded, of typing
 abbrev pub IsTypingSaid : Option Conclusion → Type 0

@@ -1,10 +1,11 @@
 -- The ranges of steps, compared from the last one down. For private functions alone.
-use Rattle.std.specs.Prelude.{◌≡◌, ◌≤◌, ◌-◌, ℕ, List, [], ◌∷◌, ◌++◌, drop, get_or, slice_get, take, Option, Some, None, option_map, MatchOption}
+use Rattle.std.specs.Prelude.{◌≡◌, ◌≤◌, ◌-◌, ℕ, List, [], ◌∷◌, drop, get_or, slice_get, take, Option, Some, None, option_map, MatchOption}
 use Rattle.lam_scope.specs.Tables.{Table, place_row_numbered}
 use Rattle.lam_scope.specs.TableViews.{place_number}
 use Rattle.lam_scope.specs.declared.numbers.Place.{Place}
-use Rattle.lam_query.specs.ProofTrees.{Tree, of_typing, of_subtyping, trees_in}
-use Rattle.lam_query.specs.Steps.{Conclusion, typing, subtyping, Proof, Proofs, no_proofs, proof_first, Step, steps_of_each, sub_proof}
+use Rattle.lam_query.specs.ProofTrees.{Tree, of_typing, of_subtyping}
+use Rattle.lam_query.specs.Steps.{Conclusion, typing, subtyping, Proof, Step, steps_of, sub_proof}
+use Rattle.lam_query.specs.inner.Backwards.{AreRead}
 use Rattle.lam_query.specs.inner.RowSteps.{premise_places, row_proof}
 
 -- the place of a term, if there is one, as its number
@@ -18,22 +19,15 @@ PlaceSuits (Some place) (of_subtyping q) = ⊥
 PlaceSuits None (of_typing p) = ⊥
 PlaceSuits None (of_subtyping q) = Unit {0}
 
--- each of the trees is about the next of these places
-abbrev pub PlacesSuit : List (Option ℕ) → List Tree → Type 0
-PlacesSuit [] [] = Unit {0}
-PlacesSuit (l ∷ ls) (t ∷ ts) = PlaceSuits l t × PlacesSuit ls ts
-PlacesSuit _ _ = ⊥
-
 -- the proof of this tree, with the ranges of the terms that it is about
 abbrev pub placed_proof : Table → Option ℕ → Tree → Proof
 placed_proof t (Some place) (of_typing p) = row_proof t place p
 placed_proof t None (of_typing p) = row_proof t 0 p
 placed_proof t l (of_subtyping q) = sub_proof q
 
--- the same for several trees, each about the next of these places
-abbrev pub placed_proofs : Table → List (Option ℕ) → List Tree → Proofs
-placed_proofs t (l ∷ ls) (tree ∷ trees) = proof_first (placed_proof t l tree) (placed_proofs t ls trees)
-placed_proofs t _ _ = no_proofs
+-- its steps, if the first one has index n
+abbrev pub placed_steps : Table → (n : ℕ) → Option ℕ → Tree → List Step
+placed_steps t n l tree = steps_of n (placed_proof t l tree)
 
 -- the terms that the premises of a step are about, if it concludes this about a place
 abbrev pub terms_under : Table → Option ℕ → Conclusion → List ℕ
@@ -53,7 +47,7 @@ place_for (Some place) terms (Some (subtyping rule l u)) = None
 place_for (Some place) terms None = None
 place_for None terms c = None
 
--- what the premises are about that conclude these
+-- what the premises that conclude these are about
 abbrev pub places_for : Option ℕ → (terms : List ℕ) → List (Option Conclusion) → List (Option ℕ)
 places_for l terms [] = []
 places_for l terms (c ∷ cs) = place_for l terms c ∷ places_for l (others_of terms) cs
@@ -70,11 +64,6 @@ DifferFrom start xs ys n = (start ≤ n) × (take (n - start) xs ≡ take (n - s
 
 -- The first steps are of proofs about these places; those behind them were compared, and this is the first of them that is another one.
 pub record AreCompared (t : Table) (steps all : List Step) (number : ℕ) (ls : List (Option ℕ)) (other : Option ℕ) : Type 0 where
-  pub proofs : Proofs
-  pub trees : List Tree
-  pub are : take number steps ≡ steps_of_each 0 proofs
-  pub are_trees : trees_in proofs ≡ Some trees
-  pub suit : PlacesSuit ls trees
   pub done : List Step
-  pub whole : all ≡ steps_of_each 0 (placed_proofs t ls trees) ++ done
+  pub are_read : AreRead (Option ℕ) Step PlaceSuits (placed_steps t) steps all number ls done
   pub first : MatchOption other (drop number steps ≡ done) (λ n. DifferFrom number (drop number steps) done n)

@@ -1,6 +1,5 @@
 -- Steps that are checked one by one, from the last one down. For private functions alone.
-use Rattle.std.specs.Prelude.{◌≡◌, ◌↔◌, ◌≤◌, ℕ, List, [], ◌∷◌, ◌++◌, length, replicate, slice_get, take, Option, Some, None, option_map, MatchOption, IsTrue}
-use Rattle.std.specs.Borrow.{Bor}
+use Rattle.std.specs.Prelude.{◌≡◌, ◌↔◌, ◌≤◌, ℕ, List, [], ◌∷◌, length, replicate, slice_get, take, Option, Some, None, MatchOption, IsTrue}
 use Rattle.lam_rules.specs.Types.{Typ, IsWellFormed}
 use Rattle.lam_rules.specs.Parts.{subject_in}
 use Rattle.lam_rules.specs.Subtyping.{Claim, BySubRule, IsRuleOf}
@@ -10,16 +9,15 @@ use Rattle.lam_rules.specs.TypingSteps.{FitsRule, IsTypingStep, Subject, subject
 use Rattle.lam_rules.specs.TypingViews.{context_of}
 use Rattle.lam_rules.specs.declared.rules.Dialect.{Dialect}
 use Rattle.lam_rules.specs.declared.types.Ty.{Ty}
-use Rattle.lam_query.specs.Judgements.{Judgement, typed, below, about_no_part, Each, IsFirstWithout, judgements, sub_judgements, steps_in, sub_steps_in}
-use Rattle.lam_query.specs.ProofTrees.{Tree, of_typing, of_subtyping, trees_in}
-use Rattle.lam_query.specs.Steps.{Conclusion, typing, subtyping, Proofs, Step, steps_of_each}
-use Rattle.lam_query.specs.Views.{step_of}
-use Rattle.lam_query.specs.declared.answers.Step.{Step as RustStep}
+use Rattle.lam_query.specs.Judgements.{Judgement, typed, below, about_no_part, Follows, Each, IsFirstWithout, judgements, sub_judgements}
+use Rattle.lam_query.specs.ProofTrees.{Tree, of_typing, of_subtyping}
+use Rattle.lam_query.specs.Steps.{Conclusion, typing, subtyping, Step}
 use Rattle.lam_query.specs.declared.wrong_steps.Seen.{Seen}
 use Rattle.lam_query.specs.declared.wrong_steps.Pending.{Pending}
 use Rattle.lam_query.specs.declared.wrong_steps.Pending.TheVariants as pending
+use Rattle.lam_query.specs.inner.Backwards.{size, AreRead}
 
--- ---- what proofs are about that are still to be checked
+-- ---- what proofs that are still to be checked are about
 
 -- a part of a term, no part of one, or nothing but types
 pub data Left : Type 0 where
@@ -27,23 +25,13 @@ pub data Left : Type 0 where
   about_nothing : Left
   of_subtypes : Left
 
--- the number of steps of a tree
-abbrev pub size : Tree → ℕ
-size (of_typing p) = steps_in p
-size (of_subtyping q) = sub_steps_in q
-
--- what the steps of a tree say that is about this
-abbrev pub says : Left → Tree → List Judgement
-says about_nothing t = replicate (size t) about_no_part
-says (about_part s) (of_typing p) = judgements s.context s.term p
-says (about_part s) (of_subtyping q) = []
-says of_subtypes (of_subtyping q) = sub_judgements q
-says of_subtypes (of_typing p) = []
-
--- what the steps of several trees say, each about the next of these
-abbrev pub says_each : List Left → List Tree → List Judgement
-says_each (l ∷ ls) (t ∷ ts) = says l t ++ says_each ls ts
-says_each _ _ = []
+-- what the steps of a tree say that is about this, whatever index its first step has
+abbrev pub says : ℕ → Left → Tree → List Judgement
+says n about_nothing t = replicate (size t) about_no_part
+says n (about_part s) (of_typing p) = judgements s.context s.term p
+says n (about_part s) (of_subtyping q) = []
+says n of_subtypes (of_subtyping q) = sub_judgements q
+says n of_subtypes (of_typing p) = []
 
 -- the tree may be about this
 abbrev pub Suits : Left → Tree → Type 0
@@ -53,21 +41,7 @@ Suits (about_part s) (of_subtyping q) = ⊥
 Suits of_subtypes (of_subtyping q) = Unit {0}
 Suits of_subtypes (of_typing p) = ⊥
 
--- each of the trees may be about the next of these
-abbrev pub SuitEach : List Left → List Tree → Type 0
-SuitEach [] [] = Unit {0}
-SuitEach (l ∷ ls) (t ∷ ts) = Suits l t × SuitEach ls ts
-SuitEach _ _ = ⊥
-
 -- ---- what premises conclude
-
--- what the step with this index concludes
-abbrev pub said_at : List Step → ℕ → Option Conclusion
-said_at steps n = option_map (λ s. s.conclusion) (slice_get steps n)
-
--- the same for a step that was looked up
-abbrev pub said_by : Option (Bor RustStep) → Option Conclusion
-said_by step = option_map (λ s. (step_of s.now).conclusion) step
 
 -- the types of the typings
 abbrev pub types_said : List (Option Conclusion) → List Typ
@@ -109,12 +83,12 @@ abbrev pub without_first : List Subject → List Subject
 without_first [] = []
 without_first (s ∷ ss) = ss
 
--- what the premises are about that conclude this, where these parts are left
+-- what the premises that conclude these are about, where these parts are left
 abbrev pub lefts_for : List Subject → List (Option Conclusion) → List Left
 lefts_for ss [] = []
 lefts_for ss (c ∷ cs) = left_for (slice_get ss 0) c ∷ lefts_for (without_first ss) cs
 
--- what the premises of a step are about that concludes this
+-- what the premises of a step that concludes this are about
 abbrev pub lefts_under : Left → Conclusion → List (Option Conclusion) → List Left
 lefts_under about_nothing c cs = replicate (length cs) about_nothing
 lefts_under of_subtypes c cs = replicate (length cs) of_subtypes
@@ -129,6 +103,10 @@ IsRight d of_subtypes (subtyping rule l u) cs = IsWellFormed l × IsWellFormed u
 IsRight d (about_part s) (subtyping rule l u) cs = Unit {0}
 IsRight d of_subtypes (typing rule sp t) cs = Unit {0}
 
+-- all of these judgements follow
+abbrev pub AllFollow : Dialect → List Judgement → Type 0
+AllFollow d js = Each (Follows d) js
+
 -- the last step of a proof follows by its rule from the conclusions of its premises
 abbrev pub Holds : Dialect → Judgement → Type 0
 Holds d (typed g e p) = IsWellFormedContext g × IsTypingStep g e p
@@ -139,13 +117,8 @@ Holds d about_no_part = Unit {0}
 
 -- The first steps are of proofs that are about these; those behind them were checked, and this is the first of them that does not follow by its rule.
 pub record IsWalked (steps : List Step) (d : Dialect) (all : List Judgement) (number : ℕ) (ls : List Left) (wrong : Option ℕ) : Type 0 where
-  pub proofs : Proofs
-  pub trees : List Tree
-  pub are : take number steps ≡ steps_of_each 0 proofs
-  pub are_trees : trees_in proofs ≡ Some trees
-  pub suit : SuitEach ls trees
   pub done : List Judgement
-  pub whole : all ≡ says_each ls trees ++ done
+  pub are_read : AreRead Left Judgement Suits says steps all number ls done
   pub first : MatchOption wrong (Each (Holds d) done) (λ n. IsFirstWithout (Holds d) number done n)
 
 -- ---- what the code keeps

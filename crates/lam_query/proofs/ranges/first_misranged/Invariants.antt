@@ -1,12 +1,12 @@
 use Rattle.std.proofs.Common.{◌-◌, length, map}
 use Rattle.lam_rules.specs.Typing.{TypingTree}
 use Rattle.lam_scope.specs.Views.{table_of}
-use Rattle.lam_query.specs.FirstFaults.{MakeTree}
 use Rattle.lam_query.specs.Steps.{steps_of}
 use Rattle.lam_query.specs.Views.{step_of}
 use Rattle.lam_query.specs.inner.Ranges.{AreCompared, number_of}
 use Rattle.lam_query.specs.inner.RowSteps.{row_proof}
 use Rattle.lam_query.proofs.ranges.first_misranged.Given as goal
+use Rattle.lam_query.specs.ProofTrees.{MakeTree}
 
 abbrev pub invariant-loop-back : goal.invariant-loop-back
 invariant-loop-back l =

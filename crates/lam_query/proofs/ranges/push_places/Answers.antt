@@ -2,7 +2,7 @@ use Rattle.std.proofs.Common.{map}
 use Rattle.lam_scope.specs.TableViews.{place_number}
 use Rattle.lam_query.specs.Views.{step_of}
 use Rattle.lam_query.specs.inner.Ranges.{number_of}
-use Rattle.lam_query.specs.inner.Walking.{said_at}
+use Rattle.lam_query.specs.inner.Backwards.{said_at}
 use Rattle.lam_query.proofs.RangesBack.{one_placed}
 use Rattle.lam_query.proofs.ranges.push_places.Goals as goal
 

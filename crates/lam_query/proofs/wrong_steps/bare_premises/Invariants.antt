@@ -2,7 +2,8 @@ use Rattle.std.proofs.Common.{◌≡◌, ◌++◌, map, drop}
 use Rattle.lam_rules.specs.SubViews.{claims_of}
 use Rattle.lam_rules.specs.TypingViews.{types_concluded}
 use Rattle.lam_query.specs.Views.{step_of}
-use Rattle.lam_query.specs.inner.Walking.{said_at, types_said, claims_said}
+use Rattle.lam_query.specs.inner.Backwards.{said_at}
+use Rattle.lam_query.specs.inner.Walking.{types_said, claims_said}
 use Rattle.lam_query.proofs.wrong_steps.bare_premises.Given as goal
 
 abbrev pub invariant-loop-number : goal.invariant-loop-number

@@ -1,6 +1,7 @@
 use Rattle.std.proofs.Common.{◌∷◌, [], map, ◌∙◌, ap}
 use Rattle.lam_query.specs.Views.{step_of}
-use Rattle.lam_query.specs.inner.Walking.{first_said, said_at}
+use Rattle.lam_query.specs.inner.Backwards.{said_at}
+use Rattle.lam_query.specs.inner.Walking.{first_said}
 use Rattle.lam_query.proofs.PendingProofs.{first_of}
 use Rattle.lam_query.proofs.wrong_steps.first_type.Goals as goal
 

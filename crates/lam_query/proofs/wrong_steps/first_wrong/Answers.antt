@@ -1,11 +1,9 @@
-use Rattle.std.proofs.Common.{◌≡◌, ◌-◌, length, map, subst, arith}
+use Rattle.std.proofs.Common.{◌≡◌, ◌-◌, length, map, arith}
 use Rattle.lam_rules.specs.TermViews.{term_of}
 use Rattle.lam_rules.specs.TypingViews.{context_of}
 use Rattle.lam_query.specs.Judgements.{judgements}
-use Rattle.lam_query.specs.Views.{step_of}
-use Rattle.lam_query.specs.inner.Walking.{IsWalked, left_of}
-use Rattle.lam_query.proofs.PendingProofs.{begun, begun_walk, stepped_right, stepped_wrong, nothing_left}
-use Rattle.lam_query.proofs.StepByStep.{told}
+use Rattle.lam_query.specs.inner.Walking.{left_of}
+use Rattle.lam_query.proofs.PendingProofs.{begun, begun_walk, stepped_right, stepped_wrong, nothing_left, walked}
 use Rattle.lam_query.proofs.wrong_steps.first_wrong.Goals as goal
 use Rattle.lam_query.proofs.wrong_steps.first_wrong.Goals.{then-not-branch, else-not-branch}
 
@@ -30,11 +28,11 @@ loop-back-preserved c = (
     | then-not-branch w ↦ rw w.wrong-is (stepped_wrong c.args.steps.now c.args.dialect (judgements (context_of c.args.entries.items) (term_of c.args.term.now) tree) c.loop-back.back c.loop-back.state.entries.items c.is_right.new.state.entries.items
         c.loop-back.state.pending.items c.pop.new.self.items c.is_right.new.state.pending.items c.in-Some.own c.index-steps-number.result c.loop-back.wrong
         c.loop-back-test.true c.in-Some.ensures.items c.index-steps-number.is c.in_ok-is_right.ensures.left
-        (λ k. let right = c.in_ok-is_right.ensures.right.1 k in let not_so = w.if-not-branch.true in absurd cc) (c.loop-back.invariant.1 tree h))
+        (c.loop-back.invariant.1 tree h) (λ k. let right = c.in_ok-is_right.ensures.right.1 k in let not_so = w.if-not-branch.true in absurd cc))
     | else-not-branch w ↦ rw w.wrong-is (stepped_right c.args.steps.now c.args.dialect (judgements (context_of c.args.entries.items) (term_of c.args.term.now) tree) c.loop-back.back c.loop-back.state.entries.items c.is_right.new.state.entries.items
         c.loop-back.state.pending.items c.pop.new.self.items c.is_right.new.state.pending.items c.in-Some.own c.index-steps-number.result c.loop-back.wrong
         c.loop-back-test.true c.in-Some.ensures.items c.index-steps-number.is c.in_ok-is_right.ensures.left
-        (c.in_ok-is_right.ensures.right.0 (let so = w.if-not-branch.false in cc)) (c.loop-back.invariant.1 tree h))
+        (c.loop-back.invariant.1 tree h) (c.in_ok-is_right.ensures.right.0 (let so = w.if-not-branch.false in cc)))
   ],
 )
 
@@ -43,5 +41,4 @@ returns c = λ tree h.
     let g = context_of c.args.entries.items in
     let e = term_of c.args.term.now in
     let none : length c.args.steps.now - c.loop-back.back ≡ 0 = omega (arith, c.loop-back-test.false) in
-    told (map step_of c.args.steps.now) c.args.dialect g e tree (map (left_of c.loop-back.state.entries.items) c.loop-back.state.pending.items) c.loop-back.wrong
-    (subst (λ n. IsWalked (map step_of c.args.steps.now) c.args.dialect (judgements g e tree) n (map (left_of c.loop-back.state.entries.items) c.loop-back.state.pending.items) c.loop-back.wrong) none (c.loop-back.invariant.1 tree h))
+    walked c.args.steps.now c.args.dialect g e tree (length c.args.steps.now - c.loop-back.back) (map (left_of c.loop-back.state.entries.items) c.loop-back.state.pending.items) c.loop-back.wrong none (c.loop-back.invariant.1 tree h)

@@ -1,7 +1,7 @@
 use Rattle.std.proofs.Common.{length, map}
 use Rattle.lam_query.specs.Views.{step_of}
 use Rattle.lam_query.specs.declared.wrong_steps.Pending.TheVariants as pending
-use Rattle.lam_query.specs.inner.Walking.{said_at}
+use Rattle.lam_query.specs.inner.Backwards.{said_at}
 use Rattle.lam_query.proofs.PendingProofs.{each_known, each_left, for_dialect, on_ok, known_below}
 use Rattle.lam_query.proofs.wrong_steps.is_right.Goals as goal
 

@@ -3,7 +3,7 @@ use Rattle.lam_rules.specs.TypeViews.{typ_of}
 use Rattle.lam_rules.specs.TermViews.{lent_of, term_of}
 use Rattle.lam_query.specs.Views.{step_of}
 use Rattle.lam_query.specs.declared.wrong_steps.Pending.TheVariants as pending
-use Rattle.lam_query.specs.inner.Walking.{said_at}
+use Rattle.lam_query.specs.inner.Backwards.{said_at}
 use Rattle.lam_query.proofs.PendingProofs.{each_known, each_left, if_right, not_right, on_ok, known_below, known_top, typing_known, typing_left, typing_right}
 use Rattle.lam_query.proofs.wrong_steps.is_right_typing.Goals as goal
 

@@ -3,7 +3,7 @@ use Rattle.lam_rules.specs.TermViews.{lent_of, term_of}
 use Rattle.lam_rules.specs.TypingSteps.{subjects}
 use Rattle.lam_rules.specs.TypingViews.{context_of}
 use Rattle.lam_query.specs.Views.{step_of}
-use Rattle.lam_query.specs.inner.Walking.{said_at}
+use Rattle.lam_query.specs.inner.Backwards.{said_at}
 use Rattle.lam_query.proofs.PendingProofs.{known_more, one_pushed}
 use Rattle.lam_query.proofs.wrong_steps.push_premises.Goals as goal
 

@@ -5,7 +5,8 @@ use Rattle.lam_rules.specs.TypingSteps.{subjects}
 use Rattle.lam_rules.specs.TypingViews.{context_of}
 use Rattle.lam_rules.specs.declared.types.Ty.{Ty}
 use Rattle.lam_query.specs.Views.{step_of}
-use Rattle.lam_query.specs.inner.Walking.{AreKnown, said_at, left_of, lefts_for}
+use Rattle.lam_query.specs.inner.Backwards.{said_at}
+use Rattle.lam_query.specs.inner.Walking.{AreKnown, left_of, lefts_for}
 use Rattle.lam_query.proofs.wrong_steps.push_premises.Given as goal
 
 abbrev pub invariant-loop-k : goal.invariant-loop-k

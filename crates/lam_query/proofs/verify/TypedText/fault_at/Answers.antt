@@ -5,13 +5,13 @@ use Rattle.lam_scope.specs.PlacedTerms.{document_terms, term_of, tree_in}
 use Rattle.lam_scope.specs.Tables.{binder_numbered, visible_at}
 use Rattle.lam_scope.specs.Views.{table_of}
 use Rattle.lam_query.specs.Views.{derivation_of, entry_of}
-use Rattle.lam_query.specs.FirstFaults.{HasContext, HasNames, entries_listed}
 use Rattle.lam_query.proofs.ListedEntries.{unfit_no_context}
 use Rattle.lam_query.proofs.Following.{typing_proved}
 use Rattle.lam_query.proofs.OneFault.{valid_and_failing}
 use Rattle.lam_query.proofs.Results.{no_difference}
-use Rattle.lam_query.proofs.Verifying.{not_so, as_long, as_many, context_is, entries_are_listed, is_proof, names_there, proof_is, steps_are, typed_there, written_there}
+use Rattle.lam_query.proofs.Verifying.{not_so, as_long, as_many, entries_are_listed, is_proof, names_there, proof_is, steps_are, typed_there, written_there}
 use Rattle.lam_query.proofs.verify.TypedText.fault_at.Goals as goal
+use Rattle.lam_query.specs.Verified.{HasContext, HasNames, entries_listed}
 
 pub returns-then-not-branch : goal.returns-then-not-branch
 returns-then-not-branch c = λ commands is.
@@ -19,7 +19,7 @@ returns-then-not-branch c = λ commands is.
     let there = names_there commands c.args.self.now.scopes c.args.place.0 is.are_scopes in
     let others : HasNames (tree_in (document_terms commands) c.args.place.0) (derivation_of c.args.claim.now.derivation.now) → ⊥ =
     λ names. not_so c.in_ok-has_names.field-0 c.if-not-branch.true (c.in_ok-has_names.ensures.1 (given ∙ names ∙ sym there)) in
-    (λ h. others h.names, others)
+    (λ h. others h.has_context.names, others)
 
 pub unfit_entry-requires-clause-long : goal.unfit_entry-requires-clause-long
 unfit_entry-requires-clause-long c =
@@ -39,7 +39,7 @@ returns-in-Some c = λ commands is.
     let found = c.in_ok-number.ensures commands is (omega (arith, size, c.requires.inside)) in
     let unfit = rw c.in-Some.is at found in
     let names = ap (λ es. map (λ e. e.name) (map entry_of es)) (sym c.deref.ensures.value) ∙ c.in_ok-has_names.ensures.0 c.if-not-branch.false ∙ names_there commands c.args.self.now.scopes n is.are_scopes in
-    (λ h. unfit_no_context (term_of term).place.scope (entries_listed x) d c.in-Some.number unfit (context_is term x d h), (names, unfit))
+    (λ h. unfit_no_context (term_of term).place.scope (entries_listed x) d c.in-Some.number unfit h.has_context.context, (names, unfit))
 
 pub returns-in-Some-2 : goal.returns-in-Some-2
 returns-in-Some-2 c = λ commands is.

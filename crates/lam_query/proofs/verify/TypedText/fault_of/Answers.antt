@@ -1,12 +1,13 @@
 use Rattle.std.proofs.Common.{◌+◌, map, Some, ap, sym, subst, ◌∙◌, arith}
 use Rattle.std.proofs.lemmas.List.{length-map}
 use Rattle.lam_query.specs.Views.{derivation_of, step_of}
-use Rattle.lam_query.specs.FirstFaults.{HasRange, last_span}
+use Rattle.lam_query.specs.FirstFaults.{HasRange}
 use Rattle.lam_query.specs.inner.Verifying.{IsResultIn}
 use Rattle.lam_query.proofs.Counting.{last_counted}
 use Rattle.lam_query.proofs.Results.{IsSoFar, so_far_other, so_far_fault, all_terms, here_is, row_is}
 use Rattle.lam_query.proofs.Verifying.{not_so, as_many}
 use Rattle.lam_query.proofs.verify.TypedText.fault_of.Goals as goal
+use Rattle.lam_query.specs.Steps.{last_span}
 
 pub loop-i-preserved-then-not-ends_at : goal.loop-i-preserved-then-not-ends_at
 loop-i-preserved-then-not-ends_at c = λ commands is.

@@ -1,8 +1,8 @@
 use Rattle.std.proofs.Common.{map, refl}
 use Rattle.lam_query.specs.Views.{step_of}
-use Rattle.lam_query.specs.inner.Walking.{said_at}
+use Rattle.lam_query.specs.inner.Backwards.{said_at}
 use Rattle.lam_query.proofs.TreesMade.{typing_drop, not_last, is_last}
-use Rattle.lam_query.proofs.first_faults.are_typings_first.Goals as goal
+use Rattle.lam_query.proofs.misplaced_steps.are_typings_first.Goals as goal
 
 pub loop-k-preserved : goal.loop-k-preserved
 loop-k-preserved c =

@@ -1,8 +1,8 @@
 use Rattle.std.proofs.Common.{◌↔◌, map, drop}
 use Rattle.lam_query.specs.Views.{step_of}
 use Rattle.lam_query.specs.inner.Placing.{AreSubtypings}
-use Rattle.lam_query.specs.inner.Walking.{said_at}
-use Rattle.lam_query.proofs.first_faults.are_subtypings.Given as goal
+use Rattle.lam_query.specs.inner.Backwards.{said_at}
+use Rattle.lam_query.proofs.misplaced_steps.are_subtypings.Given as goal
 
 abbrev pub invariant-loop-number : goal.invariant-loop-number
 invariant-loop-number l =

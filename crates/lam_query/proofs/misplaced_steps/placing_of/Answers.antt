@@ -1,7 +1,7 @@
 use Rattle.std.proofs.Common.{◌-◌, true, length, take, drop, ◌++◌, ◌∷◌, [], ap, sym, subst, refl, arith, ◌∙◌}
 use Rattle.std.specs.Str.{bytes_eq}
 use Rattle.lam_query.proofs.Misplaced.{AreSoFar, none_yet, is_misplaced, is_placed, all_so, last_got, of_one_typing, whole_list}
-use Rattle.lam_query.proofs.first_faults.placing_of.Goals as goal
+use Rattle.lam_query.proofs.misplaced_steps.placing_of.Goals as goal
 
 pub loop-i-init : goal.loop-i-init
 loop-i-init c = subst (λ l. AreSoFar [] l true) (sym c.new-lasts.ensures.items) none_yet

@@ -1,8 +1,8 @@
 use Rattle.std.proofs.Common.{map, refl}
 use Rattle.lam_query.specs.Views.{step_of}
-use Rattle.lam_query.specs.inner.Walking.{said_at}
+use Rattle.lam_query.specs.inner.Backwards.{said_at}
 use Rattle.lam_query.proofs.TreesMade.{subtypings_drop}
-use Rattle.lam_query.proofs.first_faults.are_subtypings.Goals as goal
+use Rattle.lam_query.proofs.misplaced_steps.are_subtypings.Goals as goal
 
 pub loop-number-preserved : goal.loop-number-preserved
 loop-number-preserved c =

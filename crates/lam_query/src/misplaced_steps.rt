@@ -3,7 +3,7 @@
 ghost use Rattle.std.specs.Prelude.{◌↔◌, IsTrue, IfOk, map};
 ghost use Rattle.lam_query.specs.Views.{step_of};
 ghost use Rattle.lam_query.specs.inner.Placing.{AreSubtypings, AreTypingsFirst, IsPlacing, IsSubtypingSaid, IsTypingSaid, MayHave};
-ghost use Rattle.lam_query.specs.inner.Walking.{said_at, said_by};
+ghost use Rattle.lam_query.specs.inner.Backwards.{said_at, said_by};
 
 use crate::answers::Step;
 use crate::steps::{premises_of, step_at};
