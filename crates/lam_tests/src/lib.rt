@@ -11,6 +11,8 @@ mod bounds;
 #[cfg(test)]
 mod changes;
 #[cfg(test)]
+mod derivations;
+#[cfg(test)]
 mod frames;
 #[cfg(test)]
 mod rules;

@@ -1,5 +1,5 @@
-//! Types that no text contains: those that are too large, and one that has a label twice. The checkers of proofs are tested by
-//! `rows/check.py`.
+//! Types that no text contains: those that are too large, and one that has a label twice. The checkers of single steps are tested by
+//! `rows/check.py`, those of whole proofs by `derivations.rt`.
 
 use crate::written::{check_rows, equal, fields};
 use Dialect::One;

@@ -32,17 +32,16 @@ pub(crate) fn check_rows<T: Copy, E, F: Fn(Global, T) -> Result<String, E>>(
     Ok(())
 }
 
-/// The declaration of a name with the type that is written in a text.
-fn declaration_of(alloc: Global, text: &str) -> Result<Command, Fail> {
-    let declared = format!(in alloc; "x : {text}")?;
-    let tokens = lex(alloc, &declared)?;
+/// The only command of a text.
+pub(crate) fn command_of(alloc: Global, text: &str) -> Result<Command, Fail> {
+    let tokens = lex(alloc, text)?;
     Ok(parse(alloc, &tokens)?)
 }
 
-/// The nameless form of that declaration.
-fn resolved_of(alloc: Global, text: &str) -> Result<Resolved, Fail> {
+/// The nameless form of the declaration of a name with the type that is written in a text.
+fn declaration_of(alloc: Global, text: &str) -> Result<Resolved, Fail> {
     let mut commands = Vec::new(alloc);
-    commands.push(declaration_of(alloc, text)?)?;
+    commands.push(command_of(alloc, &format!(in alloc; "x : {text}")?)?)?;
     let scopes = bind(alloc, &commands)?;
     Ok(resolve(alloc, &commands, &scopes)?)
 }
@@ -51,7 +50,7 @@ fn resolved_of(alloc: Global, text: &str) -> Result<Resolved, Fail> {
 pub(crate) fn type_of(alloc: Global, text: &str) -> Result<Ty, Fail>
     ensures { IfOk result (λ ty. IsWellFormed (typ_of ty)) }
 {
-    let resolved = resolved_of(alloc, text)?;
+    let resolved = declaration_of(alloc, text)?;
     let Some(Statement::Declaration(Some(ty))) = resolved.statements().first() else {
         return Err(Fail::new("no type"));
     };
