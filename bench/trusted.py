@@ -208,9 +208,9 @@ def page():
     yield ""
     yield "The contract of `run`, in [crates/lam_server/src/run.rt](../crates/lam_server/src/run.rt), is proved, over any source and sink, which"
     yield "[crates/lam_frame/src/device.rt](../crates/lam_frame/src/device.rt) describes (`Source`, `Sink`). Whoever wants to know what it says reads the definitions on which"
-    yield f"it rests: {lines_of(blocks, known)} lines in {len(order)} files, without imports and comments, and what is named at the end of this page. Each file stands after those that it"
-    yield "names. In the last column are the definitions of a file on which `run` does not rest. [How to read a definition](ARCHITECTURE.md#how-to-read-a-definition) tells the signs. This"
-    yield "page is printed by `make trusted`, and the gate fails where it is not what that prints."
+    yield f"it rests: {lines_of(blocks, known)} lines in {len(order)} files, without imports and comments, and what is named at the end of this page. Each file comes after those that it"
+    yield "names. In the last column are the definitions of a file on which `run` does not rest. [How to read a definition](ARCHITECTURE.md#how-to-read-a-definition) explains the notation. This"
+    yield "page is printed by `make trusted`, and the gate fails if the two differ."
     for crate in dict.fromkeys(module.split(".")[1] for module in order):
         yield from ["", f"## {crate}", ""]
         yield from table([module for module in order if module.split(".")[1] == crate], blocks, known)
@@ -218,7 +218,7 @@ def page():
     yield from (f"- [{path}](../{path}): {', '.join(f'`{it}`' for it in sorted(names))}" for path, names in sorted(rust_types(others).items()))
     yield from ["", "## The toolchain's", ""]
     yield "Definitions name these of the toolchain and of its libraries, which are read along with ours. `std.specs.List` is the file `rattle/std/specs/List.antt` beside the page that"
-    yield from ["`rt doc` names, and so for the others:", ""]
+    yield from ["`rt doc` names, and likewise for the others:", ""]
     kit = {module: names for module, names in others.items() if not module.split(".")[1].startswith("lam_")}
     yield from (f"- `{module.removeprefix('Rattle.')}`: {', '.join(f'`{it}`' for it in sorted(names))}" for module, names in sorted(kit.items()))
 
