@@ -79,11 +79,7 @@ fn tell_verdict<R: AllocGlobal + Files + Input + Print + Eprint>(
 ) -> u8 {
     let (derivation, file) = sent_of(value);
     let Some(source) = asked.source.or(readable(file)) else {
-        return tell_line(
-            rt,
-            name,
-            "it does not name its file: give it with --of",
-        );
+        return tell_line(rt, name, "it does not name its file: give it with --of");
     };
     let text = match text_of(rt, rt.alloc(), source) {
         Ok(text) => text,

@@ -80,18 +80,17 @@ fn sub_from(
 fn tree_from(alloc: Global, step: Step, trees: &mut Vec<Option<Tree>>) -> Result<Tree, Fail> {
     match step {
         Step::Typing {
-            rule, ty, premises, ..
-        } => Ok(Tree::Typing(typing_from(
-            alloc, rule, ty, &premises, trees,
-        )?)),
+            rule,
+            ty,
+            premises,
+            ..
+        } => Ok(Tree::Typing(typing_from(alloc, rule, ty, &premises, trees)?)),
         Step::Sub {
             rule,
             lower,
             upper,
             premises,
-        } => Ok(Tree::Sub(sub_from(
-            alloc, rule, lower, upper, &premises, trees,
-        )?)),
+        } => Ok(Tree::Sub(sub_from(alloc, rule, lower, upper, &premises, trees)?)),
     }
 }
 
