@@ -149,7 +149,6 @@ pub mod ExplainedRows
 pub mod BindersBehind
 pub mod ExplainedTexts
 pub mod ExplainedPieces
-pub mod PiecesRead
 pub mod Verifying
 pub mod ListedEntries
 pub mod OneFault

@@ -187,7 +187,7 @@ known_kept n g h pending.Nothing same long le k = tt
 known_kept n g h pending.Subtyping same long le k = tt
 known_kept n g h (pending.Typing seen) same long le k =
     let front : take seen.depth h ≡ take seen.depth g = sym (take_less seen.depth n h le) ∙ ap (take seen.depth) same ∙ take_less seen.depth n g le in
-    (omega arith, subst (λ es. IsTrue seen.sound ↔ IsWellFormedContext (context_of es)) (sym front) k.1)
+    (omega arith, subst (λ es. IsTrue seen.well_formed ↔ IsWellFormedContext (context_of es)) (sym front) k.1)
 
 all_known : (n : ℕ) (g h : List (Option Ty)) (ps : List Pending) → take n h ≡ take n g → n ≤ length h → AtMost n ps → AreKnown g ps → AreKnown h ps
 all_known n g h [] same long most k = tt
@@ -259,10 +259,10 @@ module _ (g h : List (Option Ty)) (ps qs : List Pending) (seen : Seen) (e : Term
     (known : AreKnown g (ps ++ typing_of seen ∷ []))
     (subject : about (context_of h) e ≡ subject_in (context_of (take seen.depth g)) seen.part)
     (outside : (seen.depth ≤ length h) × (take seen.depth h ≡ take seen.depth g)) where
-  pub typing_known : (sound : Bool)
-      → ((IsTrue seen.sound ↔ IsWellFormedContext (context_of (take seen.depth g))) → (IsTrue sound ↔ IsWellFormedContext (context_of h)))
-      → ((IsTrue sound ↔ IsWellFormedContext (context_of h)) → AreKnown h ps → AreKnown h qs) → AreKnown h qs
-  typing_known sound are pushed = pushed (are (known_top g ps (typing_of seen) known).1) (still_known g h ps seen outside.1 outside.0 known)
+  pub typing_known : (well_formed : Bool)
+      → ((IsTrue seen.well_formed ↔ IsWellFormedContext (context_of (take seen.depth g))) → (IsTrue well_formed ↔ IsWellFormedContext (context_of h)))
+      → ((IsTrue well_formed ↔ IsWellFormedContext (context_of h)) → AreKnown h ps → AreKnown h qs) → AreKnown h qs
+  typing_known well_formed are pushed = pushed (are (known_top g ps (typing_of seen) known).1) (still_known g h ps seen outside.1 outside.0 known)
 
   pub typing_left : (rule : TypeRule) (first : Option Typ) (cs : List (Option Conclusion)) (span : Span) (t : Typ)
       → map (left_of h) qs ≡ map (left_of h) ps ++ lefts_for (subjects rule (context_of h) e first) cs → first ≡ first_said cs
@@ -272,31 +272,31 @@ module _ (g h : List (Option Ty)) (ps qs : List Pending) (seen : Seen) (e : Term
       ∙ (λ i. still_left g h ps seen outside.1 known i ++ lefts_for (subjects rule (context_of h) e (is i)) cs)
       ∙ ap (λ (s : Subject). map (left_of g) ps ++ lefts_for (subjects rule s.context s.term (first_said cs)) cs) subject
 
-  pub typing_right : (sound : Bool) (rule : TypeRule) (cs : List (Option Conclusion)) (span : Span) (t : Typ) (d : Dialect)
-      → ((IsTrue seen.sound ↔ IsWellFormedContext (context_of (take seen.depth g))) → (IsTrue sound ↔ IsWellFormedContext (context_of h)))
-      → IsRight d (left_of g (typing_of seen)) (typing rule span t) cs ↔ (IsTrue sound × (IsWellFormed t × FitsRule rule (last_claim (claims_said cs)) (context_of h) e t (types_said cs)))
-  typing_right sound rule cs span t d are =
+  pub typing_right : (well_formed : Bool) (rule : TypeRule) (cs : List (Option Conclusion)) (span : Span) (t : Typ) (d : Dialect)
+      → ((IsTrue seen.well_formed ↔ IsWellFormedContext (context_of (take seen.depth g))) → (IsTrue well_formed ↔ IsWellFormedContext (context_of h)))
+      → IsRight d (left_of g (typing_of seen)) (typing rule span t) cs ↔ (IsTrue well_formed × (IsWellFormed t × FitsRule rule (last_claim (claims_said cs)) (context_of h) e t (types_said cs)))
+  typing_right well_formed rule cs span t d are =
       let both = are (known_top g ps (typing_of seen) known).1 in
       subst (λ (s : Subject). (IsWellFormedContext s.context × IsWellFormed t × FitsRule rule (last_claim (claims_said cs)) s.context s.term t (types_said cs))
-      ↔ (IsTrue sound × (IsWellFormed t × FitsRule rule (last_claim (claims_said cs)) (context_of h) e t (types_said cs)))) subject
+      ↔ (IsTrue well_formed × (IsWellFormed t × FitsRule rule (last_claim (claims_said cs)) (context_of h) e t (types_said cs)))) subject
       ((λ k. (both.1 k.0, (k.1, k.2))), (λ k. (both.0 k.0, k.1.0, k.1.1)))
 
 pub on_ok : {P : Type 0} {V E : Type 0} (r : Result V E) → P → OnOk r P
 on_ok (Ok v) p = p
 on_ok (Err e) p = tt
 
--- the step follows if it does by its rule, and the entries of its context are known to be sound
-pub if_right : {E : Type 0} (B : Type 0) (R : Dialect → Type 0) (sound : Bool) (r : Result Bool E) → IfOk r (λ right. IsTrue right ↔ B)
-    → ((d : Dialect) → R d ↔ (IsTrue sound × B)) → IsTrue sound → IfOk r (λ right. (d : Dialect) → IsTrue right ↔ R d)
-if_right B R sound (Ok right) h same s = λ d. ((λ t. (same d).1 (s, h.0 t)), (λ k. h.1 ((same d).0 k).1))
-if_right B R sound (Err e) h same s = tt
+-- the step follows if it does by its rule, and the entries of its context are known to be well formed
+pub if_right : {E : Type 0} (B : Type 0) (R : Dialect → Type 0) (well_formed : Bool) (r : Result Bool E) → IfOk r (λ right. IsTrue right ↔ B)
+    → ((d : Dialect) → R d ↔ (IsTrue well_formed × B)) → IsTrue well_formed → IfOk r (λ right. (d : Dialect) → IsTrue right ↔ R d)
+if_right B R well_formed (Ok right) h same s = λ d. ((λ t. (same d).1 (s, h.0 t)), (λ k. h.1 ((same d).0 k).1))
+if_right B R well_formed (Err e) h same s = tt
 
 pub for_dialect : {E : Type 0} (R : Dialect → Type 0) (r : Result Bool E) (d : Dialect) → IfOk r (λ right. (d : Dialect) → IsTrue right ↔ R d) → IfOk r (λ right. IsTrue right ↔ R d)
 for_dialect R (Ok right) d h = h d
 for_dialect R (Err e) d h = tt
 
--- the step does not follow if the entries are not sound
-pub not_right : (B : Type 0) (R : Dialect → Type 0) (sound : Bool) → ((d : Dialect) → R d ↔ (IsTrue sound × B)) → sound ≡ false → (d : Dialect) → IsTrue false ↔ R d
+-- the step does not follow if the entries are not well formed
+pub not_right : (B : Type 0) (R : Dialect → Type 0) (well_formed : Bool) → ((d : Dialect) → R d ↔ (IsTrue well_formed × B)) → well_formed ≡ false → (d : Dialect) → IsTrue false ↔ R d
 not_right B R true same n d = let clash : true ≡ false = n in absurd cc
 not_right B R false same n d = ((λ t. let clash : false ≡ true = t in absurd cc), (λ h. ((same d).0 h).0))
 
@@ -318,16 +318,16 @@ each_left g ps p said ns =
 
 -- ---- the walk
 
-pub begun : (g : List (Option Ty)) (term : Bor Core) (depth : ℕ) (sound : Bool) → depth ≡ length g → (IsTrue sound ↔ IsWellFormedContext (context_of g))
-    → AreKnown g (pending.Typing (record { depth = depth; sound = sound; part = part.Plain term }) ∷ [])
-begun g term depth sound deep wf =
+pub begun : (g : List (Option Ty)) (term : Bor Core) (depth : ℕ) (well_formed : Bool) → depth ≡ length g → (IsTrue well_formed ↔ IsWellFormedContext (context_of g))
+    → AreKnown g (pending.Typing (record { depth = depth; well_formed = well_formed; part = part.Plain term }) ∷ [])
+begun g term depth well_formed deep wf =
     let front : take depth g ≡ g = take_all depth g (omega arith) in
-    ((omega arith, subst (λ es. IsTrue sound ↔ IsWellFormedContext (context_of es)) (sym front) wf), tt, tt)
+    ((omega arith, subst (λ es. IsTrue well_formed ↔ IsWellFormedContext (context_of es)) (sym front) wf), tt, tt)
 
-pub begun_walk : (steps : List RustStep) (d : Dialect) (g : List (Option Ty)) (term : Bor Core) (depth : ℕ) (sound : Bool) (tree : TypingTree) → depth ≡ length g → MakeTree (map step_of steps) tree
+pub begun_walk : (steps : List RustStep) (d : Dialect) (g : List (Option Ty)) (term : Bor Core) (depth : ℕ) (well_formed : Bool) (tree : TypingTree) → depth ≡ length g → MakeTree (map step_of steps) tree
     → IsWalked (map step_of steps) d (judgements (context_of g) (term_of term.now) tree) (length steps - 0)
-    (map (left_of g) (pending.Typing (record { depth = depth; sound = sound; part = part.Plain term }) ∷ [])) None
-begun_walk steps d g term depth sound tree deep h =
+    (map (left_of g) (pending.Typing (record { depth = depth; well_formed = well_formed; part = part.Plain term }) ∷ [])) None
+begun_walk steps d g term depth well_formed tree deep h =
     let front : take depth g ≡ g = take_all depth g (omega arith) in
     let long : length (map step_of steps) ≡ length steps - 0 = (let l = length-map steps step_of in omega arith) in
     let all = judgements (context_of g) (term_of term.now) tree in

@@ -13,6 +13,7 @@ use Rattle.lam_rules.specs.TypingViews.{context_of}
 use Rattle.lam_rules.specs.declared.rules.Dialect.{Dialect}
 use Rattle.lam_rules.specs.declared.types.Ty.{Ty}
 use Rattle.lam_syntax.specs.Trees.{CommandTree}
+use Rattle.lam_syntax.specs.Views.{command_of}
 use Rattle.lam_token.specs.declared.span.Span.{Span}
 use Rattle.lam_scope.specs.Names.{shown_name}
 use Rattle.lam_scope.specs.Places.{Place, places_of, place_numbered}
@@ -31,6 +32,8 @@ use Rattle.lam_query.specs.ProofTrees.{typing_tree_in, MakeTree}
 use Rattle.lam_query.specs.Steps.{typing, Step, steps_of, steps_of_each, last_steps, typing_proof, typing_proofs, premise_terms, with_side, span_in, last_conclusion, last_span}
 use Rattle.lam_query.specs.WellTypedDocuments.{statements_in}
 use Rattle.lam_query.specs.Commands.{AreCommandsOfText}
+use Rattle.lam_query.specs.declared.reading.Parsed.{Parsed}
+use Rattle.lam_query.specs.inner.Reading.{IsRead}
 use Rattle.lam_query.specs.Sizes.{IsSizeFault}
 use Rattle.lam_query.proofs.OneAnswer.{one_document}
 use Rattle.lam_query.proofs.OneProof.{one_proof_of_steps}
@@ -83,6 +86,10 @@ row_written commands scopes n h written = ap (λ t. (place_row_numbered t n).der
 pub names_there : (commands : List CommandTree) (scopes : Scopes) (n : ℕ) → AreScopesOf scopes commands
     → map (λ b. shown_name (binder_numbered (table_of scopes) b).name) (visible_at (table_of scopes) n) ≡ names_seen (tree_in (document_terms commands) n)
 names_there commands scopes n h = ap (λ t. map (λ b. shown_name (binder_numbered t b).name) (visible_at t n)) h.same_table ∙ names_told commands n
+
+-- the commands that were read are those of the text
+pub commands_read : (text : List ℕ) (parsed : Parsed) → IsRead text parsed → AreCommandsOfText text (map command_of parsed.commands.items)
+commands_read text parsed h = record { tokens = h.tokens; are_tokens = h.are_tokens; are_commands = h.commands }
 
 -- as many places as terms
 pub as_many : (commands : List CommandTree) (resolved : Resolved) → statements_of resolved ≡ statements_in commands → length (places_of [] (statements_of resolved)) ≡ length (document_terms commands)

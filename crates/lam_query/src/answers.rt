@@ -13,9 +13,9 @@ pub struct Fault {
 /// What a subterm at fault expects of its parts and what was found there, as printed types.
 #[derive(Drop, Debug)]
 pub enum Mismatch {
-    /// A part has type `found` where a subtype of `expected` is required.
+    /// A subtype of `expected` is required. `found` is the type of the part or, for `fix`, the result type of its function.
     Expected { expected: String, found: String },
-    /// The type found is no function type, or has no such field.
+    /// The type of the part, which is not a function type or, for a projection, not a record type with that label.
     Found(String),
 }
 

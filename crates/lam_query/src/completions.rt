@@ -50,9 +50,7 @@ impl Analysis {
         requires { IsAnalysisOf text.now self.now }
         ensures { IfOk result (λ items. AreCompletions text.now offset (map item_of items.items) (dialect_of self.now)) }
     {
-        let Some(piece) = self.piece_around(text, offset) else {
-            return Ok(Vec::new(alloc));
-        };
+        let piece = self.piece_around(text, offset);
         match self.labels(alloc, piece, offset)? {
             Some(items) => Ok(items),
             None => self.names(alloc, text, piece, offset),

@@ -49,9 +49,7 @@ impl Analysis {
         if self.row_faults.large.is_some() {
             return Ok(None);
         }
-        let Some(piece) = self.piece_around(text, offset) else {
-            return Ok(None);
-        };
+        let piece = self.piece_around(text, offset);
         match command_in(alloc, piece.text, piece.start)? {
             Some(command) => self.derivation_in(alloc, text, offset, piece, command),
             None => Ok(None),

@@ -49,9 +49,7 @@ impl Analysis {
         if self.row_faults.large.is_some() {
             return Ok(None);
         }
-        let Some(piece) = self.piece_around(text, offset) else {
-            return Ok(None);
-        };
+        let piece = self.piece_around(text, offset);
         let Some(types) = self.rows[piece.number].types() else {
             return Ok(None);
         };

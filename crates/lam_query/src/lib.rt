@@ -1,6 +1,6 @@
 //! What a language server answers about a text: its diagnostics; the type that each command shows; the type at an offset, and a
-//! derivation of it; the definition, the references and a rename of the name there; the completions there; and what is wrong first
-//! with a derivation that somebody else made.
+//! derivation of it; the definition, the references and a rename of the name there; the completions there; and the first error in a
+//! derivation made elsewhere.
 //!
 //! Each answer is a function of the text, an offset and the dialect, except the derivation, which may be any proof of the least type
 //! in the context of least types. Offsets and spans are byte offsets into the UTF-8 text.
@@ -12,7 +12,6 @@ mod binders;
 mod bound;
 mod changed_names;
 mod changes;
-mod commands;
 mod completions;
 mod contexts;
 mod cursor;

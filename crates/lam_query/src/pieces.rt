@@ -1,5 +1,4 @@
 //! The piece of an analysed text that a request is about.
-ghost use Rattle.std.specs.Prelude.{IfSome, ◌≡◌, None};
 ghost use Rattle.lam_query.specs.Analyses.{IsAnalysisOf};
 ghost use Rattle.lam_query.specs.inner.Around.{IsPieceAround};
 
@@ -19,17 +18,18 @@ pub(crate) struct PieceAt<'t> {
 
 impl Analysis {
     /// Returns the piece around a byte offset. The last piece covers every offset from its start on.
-    pub(crate) fn piece_around<'t>(&self, text: &'t str, offset: usize) -> Option<PieceAt<'t>>
+    pub(crate) fn piece_around<'t>(&self, text: &'t str, offset: usize) -> PieceAt<'t>
         requires { IsAnalysisOf text.now self.now }
-        ensures some { IfSome result (IsPieceAround text.now offset self.now) }
-        ensures found { result ≡ None → ⊥ }
+        ensures { IsPieceAround text.now offset self.now result }
     {
-        let place = row_around(&self.rows, offset)?;
+        let Some(place) = row_around(&self.rows, offset) else {
+            unreachable!();
+        };
         let end = place.start + self.rows[place.number].end;
-        Some(PieceAt {
+        PieceAt {
             text: &text[place.start..end],
             start: place.start,
             number: place.number,
-        })
+        }
     }
 }

@@ -17,7 +17,7 @@ use std::alloc::{AllocError, Global};
 /// Why a rename is refused. If several reasons apply, the first in this order is reported.
 #[derive(Clone, Copy, Debug, PartialEq, Eq)]
 pub enum RenameFault {
-    /// The new name is neither a name nor a type name.
+    /// The new text is not a single token that can be a name or a type name.
     NotAName,
     /// Some piece of the text is not a command.
     UnparsedCommand,

@@ -14,7 +14,7 @@ use std::alloc::{AllocError, Global};
 pub(crate) struct RowFaults {
     /// The lexical and syntactic diagnostics, row by row.
     pub(crate) syntax: Vec<Fault>,
-    /// The type diagnostics, valid if no type is over the size limit.
+    /// The type diagnostics. They are not reported if `large` is `Some`.
     pub(crate) types: Vec<Fault>,
     /// The span of the type over the size limit, because of which no types are reported: the first written type, or else the
     /// first term with such a type.

@@ -5,31 +5,25 @@
 //! term; and each must have the range of the part that it is about. The first of these that fails is named.
 ghost use Rattle.std.specs.List.{AllZip};
 ghost use Rattle.std.specs.Prelude.{◌≡◌, ◌<◌, ◌↔◌, IsTrue, List, [], length, Some, None, map, IfOk, MatchOption, false};
-ghost use Rattle.lam_rules.specs.TermViews.{term_of as core_of, written_of};
-ghost use Rattle.lam_rules.specs.Typing.{IsTyping};
-ghost use Rattle.lam_rules.specs.TypingViews.{typing_tree_of};
-ghost use Rattle.lam_rules.specs.TypeViews.{typ_of};
+ghost use Rattle.lam_rules.specs.TermViews.{written_of};
 ghost use Rattle.lam_scope.specs.Names.{shown_name};
 ghost use Rattle.lam_scope.specs.Places.{places_of};
-ghost use Rattle.lam_scope.specs.PlacedTerms.{document_terms, term_of, tree_in};
-ghost use Rattle.lam_scope.specs.Tables.{binder_numbered, place_row_numbered, visible_at};
+ghost use Rattle.lam_scope.specs.PlacedTerms.{document_terms, tree_in};
+ghost use Rattle.lam_scope.specs.Tables.{binder_numbered, place_row_numbered};
 ghost use Rattle.lam_scope.specs.TableViews.{binder_number};
 ghost use Rattle.lam_scope.specs.Views.{table_of, statements_of};
 ghost use Rattle.lam_syntax.specs.Trees.{CommandTree};
-ghost use Rattle.lam_typing.specs.Contexts.{IsContext};
 ghost use Rattle.lam_typing.specs.Fitting.{FitsAt};
 ghost use Rattle.lam_typing.specs.Typings.{dialect_of};
-ghost use Rattle.lam_query.specs.Steps.{typing, subtyping, last_span, span_in};
+ghost use Rattle.lam_query.specs.Steps.{last_span, span_in};
 ghost use Rattle.lam_query.specs.Views.{derivation_of, entry_of, step_of};
-ghost use Rattle.lam_query.specs.FirstFaults.{DifferFirst, IsFirstUnfitEntry, IsResult};
-ghost use Rattle.lam_query.specs.Judgements.{IsFirstFailing, judgements};
-ghost use Rattle.lam_query.specs.inner.Verifying.{IsClaim, IsFirstNot, IsResultAt, IsResultIn, IsTextOf};
-ghost use Rattle.lam_query.specs.Verified.{entries_listed};
+ghost use Rattle.lam_query.specs.FirstFaults.{AreOfOneProof, IsResult};
+ghost use Rattle.lam_query.specs.inner.Verifying.{IsFirstNot, IsResultAt, IsResultIn, IsTextOf};
 
 use crate::answers::{Derivation, FirstFault, Step};
-use crate::commands::commands_of;
 use crate::misplaced_steps::{Placing, placing_of};
 use crate::ranges::first_misranged;
+use crate::reading::read;
 use crate::typings::{Types, types_of};
 use crate::wrong_steps::{copy_of_entry, first_wrong};
 use lam_rules::{Dialect, Ty};
@@ -44,13 +38,6 @@ struct TypedText {
     scopes: Scopes,
     types: Types,
     dialect: Dialect,
-}
-
-/// A derivation whose steps are those of one proof of typing, with the types of its context.
-#[derive(Clone, Copy)]
-struct Claim<'a> {
-    derivation: &'a Derivation,
-    entries: &'a [Option<Ty>],
 }
 
 /// Returns the first error in a derivation, or `None` if it is a valid one about a term of the text.
@@ -68,30 +55,23 @@ pub fn first_fault(
     match placing_of(alloc, &derivation.steps)? {
         Placing::Misplaced(number) => Ok(Some(FirstFault::Premises(number))),
         Placing::Loose => Ok(Some(FirstFault::Loose(derivation.steps.len() - 1))),
-        Placing::OneTyping => {
-            let entries = entries_of(alloc, &derivation.context)?;
-            let claim = Claim {
-                derivation,
-                entries: &entries,
-            };
-            fault_in_text(alloc, text, &claim, dialect)
-        }
+        Placing::OneTyping => fault_in_text(alloc, text, derivation, dialect),
     }
 }
 
-/// The first error in a claim about a text.
+/// The first error in a derivation whose steps are those of one proof of typing.
 fn fault_in_text(
     alloc: Global,
     text: &str,
-    claim: &Claim<'_>,
+    derivation: &Derivation,
     dialect: Dialect,
 ) -> Result<Option<FirstFault>, AllocError>
-    requires { IsClaim claim.now }
-    ensures { IfOk result (λ fault. IsResult text.now (derivation_of claim.now.derivation.now) dialect fault) }
+    requires { AreOfOneProof (derivation_of derivation.now).steps }
+    ensures { IfOk result (λ fault. IsResult text.now (derivation_of derivation.now) dialect fault) }
 {
-    let commands = commands_of(alloc, text)?;
-    let scopes = bind(alloc, &commands)?;
-    let Some(types) = types_of(alloc, &commands, &scopes, dialect)? else {
+    let parsed = read(alloc, text)?;
+    let scopes = bind(alloc, &parsed.commands)?;
+    let Some(types) = types_of(alloc, &parsed.commands, &scopes, dialect)? else {
         return Ok(Some(FirstFault::TooLarge));
     };
     let typed = TypedText {
@@ -99,7 +79,7 @@ fn fault_in_text(
         types,
         dialect,
     };
-    typed.fault_of(alloc, claim)
+    typed.fault_of(alloc, derivation)
 }
 
 /// The types of a context.
@@ -118,50 +98,56 @@ fn entries_of(
 }
 
 impl TypedText {
-    /// The first error in a claim about the first term with the range of the last step, or `None` if it is a valid proof about a
-    /// term with that range.
-    fn fault_of(&self, alloc: Global, claim: &Claim<'_>) -> Result<Option<FirstFault>, AllocError>
-        requires { IsClaim claim.now }
+    /// The first error in a derivation as one about the first term with the range of its last step, or `None` if it is a valid one
+    /// about a term with that range.
+    fn fault_of(
+        &self,
+        alloc: Global,
+        derivation: &Derivation,
+    ) -> Result<Option<FirstFault>, AllocError>
+        requires { AreOfOneProof (derivation_of derivation.now).steps }
         ensures { IfOk result (λ fault. (commands : List CommandTree) → IsTextOf commands self.now
-            → IsResultIn commands (derivation_of claim.now.derivation.now) self.now.dialect fault) }
+            → IsResultIn commands (derivation_of derivation.now) self.now.dialect fault) }
     {
         let mut first = None;
         for i in 0..self.types.resolved.place_count() {
             let place = Place(i);
-            if !ends_at(&self.scopes, place, &claim.derivation.steps) {
+            if !ends_at(&self.scopes, place, &derivation.steps) {
                 continue;
             }
-            let Some(fault) = self.fault_at(alloc, claim, place)? else {
+            let Some(fault) = self.fault_at(alloc, derivation, place)? else {
                 return Ok(None);
             };
             first = Some(first.unwrap_or(fault));
         }
-        let last = claim.derivation.steps.len().saturating_sub(1);
+        let last = derivation.steps.len().saturating_sub(1);
         Ok(Some(first.unwrap_or(FirstFault::NoTerm(last))))
     }
 
-    /// The first error in a claim about the term with this id, or `None` if it is a valid proof about that term.
+    /// The first error in a derivation as one about the term with this id, or `None` if it is a valid one about that term.
     fn fault_at(
         &self,
         alloc: Global,
-        claim: &Claim<'_>,
+        derivation: &Derivation,
         place: Place,
     ) -> Result<Option<FirstFault>, AllocError>
-        requires claim { IsClaim claim.now }
+        requires one { AreOfOneProof (derivation_of derivation.now).steps }
         requires written { (place_row_numbered (table_of self.now.scopes) place.0).derived ≡ false }
         requires inside { place.0 < length (places_of [] (statements_of self.now.types.resolved)) }
         ensures { IfOk result (λ fault. (commands : List CommandTree) → IsTextOf commands self.now
-            → IsResultAt (tree_in (document_terms commands) place.0) (derivation_of claim.now.derivation.now) self.now.dialect fault) }
+            → IsResultAt (tree_in (document_terms commands) place.0) (derivation_of derivation.now) self.now.dialect fault) }
     {
-        if !has_names(alloc, &self.scopes, place, &claim.derivation.context)? {
+        let binders = self.scopes.visible_at(alloc, place)?;
+        if !are_named(&self.scopes, &binders, &derivation.context) {
             return Ok(Some(FirstFault::Names));
         }
-        if let Some(number) = self.unfit_entry(alloc, claim, place)? {
+        let entries = entries_of(alloc, &derivation.context)?;
+        let origins = self.types.resolved.origins();
+        if let Some(number) = first_unfit(&self.types.typing, origins, &binders, &entries)? {
             return Ok(Some(FirstFault::Entry(number)));
         }
         let term = self.types.resolved.core_at(place);
-        let entries = entries_of(alloc, &claim.derivation.context)?;
-        let steps = &claim.derivation.steps;
+        let steps = &derivation.steps;
         if let Some(number) = first_wrong(alloc, entries, term, steps, self.dialect)? {
             return Ok(Some(FirstFault::Step(number)));
         }
@@ -169,27 +155,6 @@ impl TypedText {
             Some(number) => Ok(Some(FirstFault::Range(number))),
             None => Ok(None),
         }
-    }
-
-    /// The index of the first entry, outermost first, that does not fit its binder, or `None` if the entries are a context of the
-    /// term.
-    fn unfit_entry(
-        &self,
-        alloc: Global,
-        claim: &Claim<'_>,
-        place: Place,
-    ) -> Result<Option<usize>, AllocError>
-        requires claim { IsClaim claim.now }
-        requires long { length claim.now.entries.now ≡ length (visible_at (table_of self.now.scopes) place.0) }
-        ensures { IfOk result (λ unfit. (commands : List CommandTree) → IsTextOf commands self.now
-            → place.0 < length (document_terms commands)
-            → let scope = (term_of (tree_in (document_terms commands) place.0)).place.scope in
-            let listed = entries_listed (derivation_of claim.now.derivation.now) in
-            MatchOption unfit (IsContext scope listed self.now.dialect) (λ number. IsFirstUnfitEntry scope listed self.now.dialect number)) }
-    {
-        let binders = self.scopes.visible_at(alloc, place)?;
-        let origins = self.types.resolved.origins();
-        first_unfit(&self.types.typing, origins, &binders, claim.entries)
     }
 }
 
@@ -217,20 +182,7 @@ fn is_at(step: &Step, span: Span) -> bool
     }
 }
 
-/// Whether the context lists the names in scope at a subterm.
-fn has_names(
-    alloc: Global,
-    scopes: &Scopes,
-    place: Place,
-    context: &[(String, Option<Ty>)],
-) -> Result<bool, AllocError>
-    ensures { IfOk result (λ has. IsTrue has
-        ↔ (map (λ e. e.name) (map entry_of context.now) ≡ map (λ b. shown_name (binder_numbered (table_of scopes.now) b).name) (visible_at (table_of scopes.now) place.0))) }
-{
-    let binders = scopes.visible_at(alloc, place)?;
-    Ok(are_named(scopes, &binders, context))
-}
-
+/// Whether the context lists the names of these binders.
 fn are_named(scopes: &Scopes, binders: &[Binder], context: &[(String, Option<Ty>)]) -> bool
     ensures { IsTrue result
         ↔ (map (λ e. e.name) (map entry_of context.now) ≡ map (λ b. shown_name (binder_numbered (table_of scopes.now) b).name) (map binder_number binders.now)) }
@@ -247,6 +199,7 @@ fn are_named(scopes: &Scopes, binders: &[Binder], context: &[(String, Option<Ty>
     true
 }
 
+/// The index of the first entry, outermost first, that does not fit its binder.
 fn first_unfit(
     typing: &Typing,
     origins: &[Origin],

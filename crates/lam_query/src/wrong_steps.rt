@@ -32,11 +32,11 @@ use lam_rules::{
 };
 use std::alloc::{AllocError, Global};
 
-/// A part of a term, in the context of the first `depth` entries. `sound`: whether the types of these have distinct labels.
+/// A part of a term, in the context of the first `depth` entries. `well_formed`: whether the types of these have distinct labels.
 #[derive(Clone, Copy)]
 struct Seen<'a> {
     depth: usize,
-    sound: bool,
+    well_formed: bool,
     part: Part<'a>,
 }
 
@@ -57,11 +57,11 @@ struct State<'a> {
 }
 
 /// The term that a step of typing is about, its rule, and the type that its first premise concludes. `depth` is the number of
-/// entries of its context, `sound` whether their types have distinct labels.
+/// entries of its context, `well_formed` whether their types have distinct labels.
 #[derive(Clone, Copy)]
 struct Parent<'a> {
     depth: usize,
-    sound: bool,
+    well_formed: bool,
     rule: TypeRule,
     term: &'a Core,
     first: Option<&'a Ty>,
@@ -89,7 +89,7 @@ pub(crate) fn first_wrong(
 {
     let seen = Seen {
         depth: entries.len(),
-        sound: wf_context(&entries),
+        well_formed: wf_context(&entries),
         part: Part::Plain(term),
     };
     let mut state = State {
@@ -177,16 +177,16 @@ fn is_right_typing<'a>(
         push_each(&mut state.pending, Pending::Nothing, premises.len())?;
         return Ok(true);
     };
-    let (term, sound) = enter(&mut state.entries, seen)?;
+    let (term, well_formed) = enter(&mut state.entries, seen)?;
     let parent = Parent {
         depth: state.entries.len(),
-        sound,
+        well_formed,
         rule: *rule,
         term,
         first: first_type(premises, steps),
     };
     push_premises(&mut state.pending, parent, premises, steps)?;
-    if !sound {
+    if !well_formed {
         return Ok(false);
     }
     follows(alloc, &state.entries, term, *rule, ty, premises, steps)
@@ -213,16 +213,16 @@ fn follows(
 fn enter<'a>(entries: &mut Vec<Option<Ty>>, seen: Seen<'a>) -> Result<(&'a Core, bool), AllocError>
     requires { seen.depth ≤ length entries.old.items }
     ensures subject { IfOk result (λ inside. about (context_of entries.new.items) (term_of inside.0.now) ≡ subject_in (context_of (take seen.entry.depth entries.old.items)) seen.entry.part) }
-    ensures sound { IfOk result (λ inside. (IsTrue seen.entry.sound ↔ IsWellFormedContext (context_of (take seen.entry.depth entries.old.items)))
+    ensures well_formed { IfOk result (λ inside. (IsTrue seen.entry.well_formed ↔ IsWellFormedContext (context_of (take seen.entry.depth entries.old.items)))
         → (IsTrue inside.1 ↔ IsWellFormedContext (context_of entries.new.items))) }
     ensures outside { OnOk result ((seen.entry.depth ≤ length entries.new.items) × (take seen.entry.depth entries.new.items ≡ take seen.entry.depth entries.old.items)) }
 {
     entries.truncate(seen.depth);
     match seen.part {
-        Part::Plain(term) => Ok((term, seen.sound)),
+        Part::Plain(term) => Ok((term, seen.well_formed)),
         Part::Under(entry, term) => {
             entries.push(copy_of_entry(entry)?)?;
-            Ok((term, are_sound(seen.sound, entry)))
+            Ok((term, stays_well_formed(seen.well_formed, entry)))
         }
     }
 }
@@ -238,7 +238,7 @@ pub(crate) fn copy_of_entry(entry: Option<&Ty>) -> Result<Option<Ty>, AllocError
 }
 
 /// Whether the types of a context have distinct labels, if it is known of the entries outside this one.
-fn are_sound(outside: bool, entry: Option<&Ty>) -> bool
+fn stays_well_formed(outside: bool, entry: Option<&Ty>) -> bool
     ensures { IsTrue result ↔ (IsWellFormedEntry (lent_of entry.entry) × IsTrue outside) }
 {
     if !outside {
@@ -281,7 +281,7 @@ fn push_premises<'a>(
     ensures left { OnOk result ((g : List (Option RustTy)) → length g ≡ parent.entry.depth → map (left_of g) pending.new.items
         ≡ map (left_of g) pending.old.items
         ++ lefts_for (subjects parent.entry.rule (context_of g) (term_of parent.entry.term.now) (lent_of parent.entry.first)) (map (said_at (map step_of steps.now)) premises.now)) }
-    ensures known { OnOk result ((g : List (Option RustTy)) → length g ≡ parent.entry.depth → (IsTrue parent.entry.sound ↔ IsWellFormedContext (context_of g))
+    ensures known { OnOk result ((g : List (Option RustTy)) → length g ≡ parent.entry.depth → (IsTrue parent.entry.well_formed ↔ IsWellFormedContext (context_of g))
         → AreKnown g pending.old.items → AreKnown g pending.new.items) }
 {
     for k in 0..premises.len() {
@@ -294,7 +294,7 @@ fn push_premises<'a>(
 fn premise_of<'a>(parent: Parent<'a>, k: usize, step: Option<&'a Step>) -> Pending<'a>
     ensures left { (g : List (Option RustTy)) → length g ≡ parent.entry.depth
         → left_of g result ≡ left_for (slice_get (subjects parent.entry.rule (context_of g) (term_of parent.entry.term.now) (lent_of parent.entry.first)) k) (said_by step.entry) }
-    ensures known { (g : List (Option RustTy)) → length g ≡ parent.entry.depth → (IsTrue parent.entry.sound ↔ IsWellFormedContext (context_of g)) → IsKnown g result × IsTop g result }
+    ensures known { (g : List (Option RustTy)) → length g ≡ parent.entry.depth → (IsTrue parent.entry.well_formed ↔ IsWellFormedContext (context_of g)) → IsKnown g result × IsTop g result }
 {
     match step {
         Some(Step::Typing { .. }) => typing_premise(parent, k),
@@ -307,12 +307,12 @@ fn premise_of<'a>(parent: Parent<'a>, k: usize, step: Option<&'a Step>) -> Pendi
 fn typing_premise<'a>(parent: Parent<'a>, k: usize) -> Pending<'a>
     ensures left { (g : List (Option RustTy)) (rule : Rule) (span : Span) (t : Typ) → length g ≡ parent.entry.depth
         → left_of g result ≡ left_for (slice_get (subjects parent.entry.rule (context_of g) (term_of parent.entry.term.now) (lent_of parent.entry.first)) k) (Some (typing rule span t)) }
-    ensures known { (g : List (Option RustTy)) → length g ≡ parent.entry.depth → (IsTrue parent.entry.sound ↔ IsWellFormedContext (context_of g)) → IsKnown g result × IsTop g result }
+    ensures known { (g : List (Option RustTy)) → length g ≡ parent.entry.depth → (IsTrue parent.entry.well_formed ↔ IsWellFormedContext (context_of g)) → IsKnown g result × IsTop g result }
 {
     match part_of(parent.rule, parent.term, parent.first, k) {
         Some(part) => Pending::Typing(Seen {
             depth: parent.depth,
-            sound: parent.sound,
+            well_formed: parent.well_formed,
             part,
         }),
         None => Pending::Nothing,

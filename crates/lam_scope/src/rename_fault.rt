@@ -7,7 +7,7 @@ use std::alloc::{AllocError, AllocFailed};
 /// Why a binder and its uses can't be renamed.
 #[derive(Clone, Copy, Debug, PartialEq, Eq)]
 pub enum RenameFault {
-    /// The new name is neither a name nor a type name.
+    /// The new text is not a single token that can be a name or a type name.
     NotAName,
     /// The new name is a type name and the binder is one of a name, or the other way round.
     WrongKind,

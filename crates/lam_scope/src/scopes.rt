@@ -221,7 +221,7 @@ pub(crate) fn answer_of(binders: &[BinderRow], binder: Binder) -> Binder
     }
 }
 
-/// Returns the innermost binder of a name in scope at a subterm.
+/// Returns the innermost binder in scope at a subterm, type names aside.
 #[tactic(auto, using(crate::proofs::Reading::reading))]
 fn innermost_at(rows: &Rows, place: Place) -> Option<Binder>
     ensures { option_map binder_number result ≡ (place_row_numbered (rows_of rows.now) place.0).inner }

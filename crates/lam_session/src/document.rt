@@ -68,8 +68,8 @@ impl Document {
         })
     }
 
-    /// Changes the text. The analysis is reused where the changes do not touch the text. On an error the text is unchanged, and
-    /// its analysis may be gone.
+    /// Changes the text and updates its analysis: only commands that changed, and those that use a name whose meaning changed, are
+    /// typed again, except that now and then all are. On an error the text is unchanged, and its analysis may be gone.
     pub fn change(
         &mut self,
         alloc: Global,

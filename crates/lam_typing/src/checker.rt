@@ -82,13 +82,6 @@ impl TypeChecker {
         &mut self.table
     }
 
-    /// Returns the table, dropping the memo of subtyping.
-    pub fn into_table(self) -> TyTable
-        ensures { result ≡ types_in self }
-    {
-        self.table
-    }
-
     /// Returns the types of a command's subterms. `entries` are those of the binders in scope for it, outermost first.
     pub fn check(
         &mut self,

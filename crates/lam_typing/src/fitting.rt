@@ -14,7 +14,8 @@ use lam_sub::is_sub;
 use std::alloc::AllocError;
 
 impl Typing {
-    /// Whether an entry fits a binder: that of a term may be any type that is above the least one, any other is the one found.
+    /// Whether an entry fits a binder. If the binder takes its type from a term, any well-formed supertype of the least type fits,
+    /// otherwise exactly the type found. Where no type was found, only `None` fits.
     pub fn fits(
         &self,
         origins: &[Origin],

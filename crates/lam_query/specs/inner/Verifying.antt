@@ -11,7 +11,6 @@ use Rattle.lam_query.specs.FirstFaults.{AreOfOneProof, IsFaultAt, IsFaultIn}
 use Rattle.lam_query.specs.Verified.{IsProofAt, IsProofOf}
 use Rattle.lam_query.specs.declared.answers.FirstFault.{FirstFault}
 use Rattle.lam_query.specs.Views.{derivation_of}
-use Rattle.lam_query.specs.declared.verify.Claim.{Claim}
 use Rattle.lam_query.specs.declared.verify.TypedText.{TypedText}
 use Rattle.lam_query.specs.inner.Typings.{AreTypesOf}
 
@@ -19,11 +18,6 @@ use Rattle.lam_query.specs.inner.Typings.{AreTypesOf}
 pub record IsTextOf (commands : List CommandTree) (text : TypedText) : Type 0 where
   pub are_scopes : AreScopesOf text.scopes commands
   pub are_types : AreTypesOf commands text.types text.dialect
-
--- The types are those of the context, and the steps are those of one proof of typing.
-pub record IsClaim (claim : Claim) : Type 0 where
-  pub types : map written_of claim.entries.now ≡ map (λ e. e.type) (derivation_of claim.derivation.now).context
-  pub one : AreOfOneProof (derivation_of claim.derivation.now).steps
 
 -- The derivation is about one of the terms of these commands.
 pub record IsOfSomeTerm (commands : List CommandTree) (derivation : Derivation) (d : Dialect) : Type 0 where

@@ -140,7 +140,7 @@ depth_of _ = 0
 
 -- Whether the types in its context have distinct labels is known.
 abbrev pub IsKnown : List (Option Ty) → Pending → Type 0
-IsKnown context (pending.Typing seen) = (seen.depth ≤ length context) × (IsTrue seen.sound ↔ IsWellFormedContext (context_of (take seen.depth context)))
+IsKnown context (pending.Typing seen) = (seen.depth ≤ length context) × (IsTrue seen.well_formed ↔ IsWellFormedContext (context_of (take seen.depth context)))
 IsKnown context _ = Unit {0}
 
 -- It needs all entries, if it needs some.

@@ -5,5 +5,5 @@ use Rattle.lam_query.proofs.wrong_steps.enter.Goals as goal
 pub returns-in_ok-push-in-Under-clause-subject : goal.returns-in_ok-push-in-Under-clause-subject
 returns-in_ok-push-in-Under-clause-subject c = grind (arith, context_more)
 
-pub returns-in_ok-push-in-Under-clause-sound : goal.returns-in_ok-push-in-Under-clause-sound
-returns-in_ok-push-in-Under-clause-sound c = grind (arith, context_more)
+pub returns-in_ok-push-in-Under-clause-well_formed : goal.returns-in_ok-push-in-Under-clause-well_formed
+returns-in_ok-push-in-Under-clause-well_formed c = grind (arith, context_more)

@@ -12,7 +12,7 @@ loop-k-preserved c = (
   λ g deep.
       one_pushed g (subjects c.args.parent.rule (context_of g) (term_of c.args.parent.term.now) (lent_of c.args.parent.first)) (said_at (map step_of c.args.steps.now)) c.args.premises.now c.loop-k.k
       c.loop-k.pending.items c.push.new.self.items c.premise_of.result _ c.loop-k-test.true c.in_ok-push.ensures.items (rw c.step_at.ensures at c.premise_of.ensures.left g deep) (c.loop-k.invariant.0 g deep),
-  λ g deep sound known.
-      let own = c.premise_of.ensures.known g deep sound in
-      rw c.in_ok-push.ensures.items (known_more g c.loop-k.pending.items c.premise_of.result (c.loop-k.invariant.1 g deep sound known) own.0 own.1),
+  λ g deep well_formed known.
+      let own = c.premise_of.ensures.known g deep well_formed in
+      rw c.in_ok-push.ensures.items (known_more g c.loop-k.pending.items c.premise_of.result (c.loop-k.invariant.1 g deep well_formed known) own.0 own.1),
 )

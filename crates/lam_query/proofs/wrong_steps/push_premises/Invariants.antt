@@ -15,4 +15,4 @@ invariant-loop-k l =
     let ss = subjects l.parent.rule (context_of g) (term_of l.parent.term.now) (lent_of l.parent.first) in
     let said = said_at (map step_of l.steps) in
     map (left_of g) l.pending.items ++ lefts_for (drop l.k ss) (map said (drop l.k l.premises)) ≡ map (left_of g) l.fn.pending.items ++ lefts_for ss (map said l.premises))
-    × ((g : List (Option Ty)) → length g ≡ l.parent.depth → (IsTrue l.parent.sound ↔ IsWellFormedContext (context_of g)) → AreKnown g l.fn.pending.items → AreKnown g l.pending.items)
+    × ((g : List (Option Ty)) → length g ≡ l.parent.depth → (IsTrue l.parent.well_formed ↔ IsWellFormedContext (context_of g)) → AreKnown g l.fn.pending.items → AreKnown g l.pending.items)

@@ -4,20 +4,17 @@ use Rattle.lam_query.proofs.AnalysisAnswers.{text_items}
 use Rattle.lam_query.proofs.LabelInPiece.{piece_fits}
 use Rattle.lam_query.proofs.analyses.Analysis.complete.Goals as goal
 
-pub returns-in_default : goal.returns-in_default
-returns-in_default c = absurd (c.piece_around.ensures.found c.in_default.is)
-
 pub labels-requires-clause-there : goal.labels-requires-clause-there
-labels-requires-clause-there c = (c.args.text.now, c.requires, c.in-Some.ensures.some)
+labels-requires-clause-there c = (c.args.text.now, c.requires, c.piece_around-piece.ensures)
 
 pub labels-requires-clause-fits : goal.labels-requires-clause-fits
-labels-requires-clause-fits c = omega (arith, piece_fits c.in-Some.ensures.some)
+labels-requires-clause-fits c = omega (arith, piece_fits c.piece_around-piece.ensures)
 
-pub returns-in-Some-2 : goal.returns-in-Some-2
-returns-in-Some-2 c =
-    let some = rw c.in-Some-2.is at c.in_ok-items.ensures.some in
+pub returns-in-Some : goal.returns-in-Some
+returns-in-Some c =
+    let some = rw c.in-Some.is at c.in_ok-items.ensures.some in
     text_items c.args.text.now c.args.self.now c.args.offset _ c.requires
-    (λ tokens commands are are_commands. some c.args.text.now tokens commands c.requires c.in-Some.ensures.some are are_commands)
+    (λ tokens commands are are_commands. some c.args.text.now tokens commands c.requires c.piece_around-piece.ensures are are_commands)
 
 pub returns-in-None : goal.returns-in-None
 returns-in-None c =
@@ -25,5 +22,5 @@ returns-in-None c =
     IfOk-weaker c.names.result _ _
     (λ items listed.
     text_items c.args.text.now c.args.self.now c.args.offset _ c.requires
-    (λ tokens commands are are_commands. listed tokens commands are are_commands (λ l. none c.args.text.now tokens l c.requires c.in-Some.ensures.some are)))
+    (λ tokens commands are are_commands. listed tokens commands are are_commands (λ l. none c.args.text.now tokens l c.requires c.piece_around-piece.ensures are)))
     c.names.ensures

@@ -1,4 +1,4 @@
-use Rattle.std.proofs.Common.{refl, subst, sym, ◌∷◌, [], ◌∙◌, arith}
+use Rattle.std.proofs.Common.{subst, sym, ◌∷◌, [], ◌∙◌, arith}
 use Rattle.lam_syntax.specs.Views.{command_of}
 use Rattle.lam_query.specs.inner.OnePiece.{IsOwnOf}
 use Rattle.lam_query.specs.inner.Reading.{own_of}
@@ -11,21 +11,18 @@ returns-then-is_some-clause-derived c =
     derived_nothing c.args.text.now c.args.offset c.args.self.now.dialect
     (large_shown c.args.text.now c.args.self.now c.args.offset c.requires (sym c.is_some.ensures ∙ c.if-is_some.true))
 
-pub returns-in_default-clause-derived : goal.returns-in_default-clause-derived
-returns-in_default-clause-derived c = absurd (c.in_default.ensures.found refl)
-
 pub command_in-requires : goal.command_in-requires
-command_in-requires c = bytes_fit c.args.text.now c.args.offset c.args.self.now c.in-Some.piece c.requires c.in-Some.ensures.some (omega arith)
+command_in-requires c = bytes_fit c.args.text.now c.args.offset c.args.self.now c.piece_around-piece.result c.requires c.piece_around-piece.ensures (omega arith)
 
 pub derivation_in-requires-clause-there : goal.derivation_in-requires-clause-there
 derivation_in-requires-clause-there c = record {
-  here = c.in-Some.ensures.some;
-  own = own_read c.args.text.now c.args.offset c.args.self.now c.in-Some.piece c.requires c.in-Some.ensures.some (command_of c.in-Some-2.command ∷ [])
-      (λ rest tokens are none. subst (λ command. IsOwnOf tokens (own_of command)) c.in-Some-2.is (c.in_ok-command.ensures rest tokens are none));
+  here = c.piece_around-piece.ensures;
+  own = own_read c.args.text.now c.args.offset c.args.self.now c.piece_around-piece.result c.requires c.piece_around-piece.ensures (command_of c.in-Some.command ∷ [])
+      (λ rest tokens are none. subst (λ command. IsOwnOf tokens (own_of command)) c.in-Some.is (c.in_ok-command.ensures rest tokens are none));
 }
 
 pub returns-in-None-clause-derived : goal.returns-in-None-clause-derived
 returns-in-None-clause-derived c =
-    no_command_derived c.args.text.now c.args.offset c.args.self.now c.in-Some.piece c.requires c.in-Some.ensures.some
-    (own_read c.args.text.now c.args.offset c.args.self.now c.in-Some.piece c.requires c.in-Some.ensures.some []
+    no_command_derived c.args.text.now c.args.offset c.args.self.now c.piece_around-piece.result c.requires c.piece_around-piece.ensures
+    (own_read c.args.text.now c.args.offset c.args.self.now c.piece_around-piece.result c.requires c.piece_around-piece.ensures []
     (λ rest tokens are none. subst (λ command. IsOwnOf tokens (own_of command)) c.in-None.is (c.in_ok-command.ensures rest tokens are none)))

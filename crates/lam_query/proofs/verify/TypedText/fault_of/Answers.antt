@@ -11,7 +11,7 @@ use Rattle.lam_query.specs.Steps.{last_span}
 
 pub loop-i-preserved-then-not-ends_at : goal.loop-i-preserved-then-not-ends_at
 loop-i-preserved-then-not-ends_at c = λ commands is.
-    let x = derivation_of c.args.claim.now.derivation.now in
+    let x = derivation_of c.args.derivation.now in
     let i = c.loop-i.i in
     let given = ap (λ ss. last_span (map step_of ss)) c.deref.ensures.value in
     let other : HasRange commands x.steps i → ⊥ =
@@ -20,7 +20,7 @@ loop-i-preserved-then-not-ends_at c = λ commands is.
 
 pub loop-i-preserved : goal.loop-i-preserved
 loop-i-preserved c = λ commands is.
-    let x = derivation_of c.args.claim.now.derivation.now in
+    let x = derivation_of c.args.derivation.now in
     let d = c.args.self.now.dialect in
     let i = c.loop-i.i in
     let given = ap (λ ss. last_span (map step_of ss)) c.deref.ensures.value in
@@ -33,12 +33,11 @@ loop-i-preserved c = λ commands is.
 
 pub returns : goal.returns
 returns c = λ commands is.
-    let claim = c.args.claim.now in
-    let x = derivation_of claim.derivation.now in
+    let x = derivation_of c.args.derivation.now in
     let d = c.args.self.now.dialect in
     let size = as_many commands c.args.self.now.types.resolved is.are_types.statements in
-    let long = length-map claim.derivation.now.steps.items step_of in
-    let last = last_counted x.steps c.requires.one.tree c.saturating_sub-last.result c.requires.one.make
-    (omega (arith, long, c.saturating_sub-last.ensures, c.len.ensures, claim.derivation.now.steps.ok.0)) in
+    let long = length-map c.args.derivation.now.steps.items step_of in
+    let last = last_counted x.steps c.requires.tree c.saturating_sub-last.result c.requires.make
+    (omega (arith, long, c.saturating_sub-last.ensures, c.len.ensures, c.args.derivation.now.steps.ok.0)) in
     subst (λ r. IsResultIn commands x d (Some r)) (sym c.unwrap_or-2.ensures)
     (all_terms commands x d c.loop-i.i c.saturating_sub-last.result c.loop-i.first (omega (arith, size, c.loop-i-test.false, c.place_count-i-end.ensures)) last (c.loop-i.invariant commands is))

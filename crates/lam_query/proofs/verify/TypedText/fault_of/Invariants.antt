@@ -6,4 +6,4 @@ use Rattle.lam_query.proofs.Results.{IsSoFar}
 use Rattle.lam_query.proofs.verify.TypedText.fault_of.Given as goal
 
 abbrev pub invariant-loop-i : goal.invariant-loop-i
-invariant-loop-i l = (commands : List CommandTree) → IsTextOf commands l.self → IsSoFar commands (derivation_of l.claim.derivation.now) l.self.dialect l.i l.first
+invariant-loop-i l = (commands : List CommandTree) → IsTextOf commands l.self → IsSoFar commands (derivation_of l.derivation) l.self.dialect l.i l.first
