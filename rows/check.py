@@ -237,7 +237,7 @@ NAMES = [{"name": "point", "type": WIDE}, {"name": "next", "type": "{x:Nat}->Nat
 ACCEPTED = f"d: accepted: point:{WIDE}, next:{{x:Nat}}->Nat |- next point : Nat\n"
 BELOW = "step {} does not follow by its rule from its premises"
 ENTRY = "d: entry {} of the context does not fit its name in the text\n"
-OTHER_NAMES = "d: the context has other names than those that the term sees\n"
+OTHER_NAMES = "d: the names of the context are not those that the term sees\n"
 # A name of a term, a declared one, and a use of the first.
 USED = "r = {a=0, b=true}; s : {b:Bool, a:Nat}; r"
 
@@ -317,21 +317,21 @@ def sent(change=None, names=None, steps=None):
 
 # Derivations that cannot be read, each with what is told of it. What is wrong is never first in its list.
 UNREAD = [
-    ("an entry that is no object", sent(names=[NAMES[0], 7]), "entry 1 is no object of a name and a type"),
+    ("an entry that is no object", sent(names=[NAMES[0], 7]), "entry 1 is not an object with a name and a type"),
     ("an entry of which the type is cut", sent(names=[NAMES[0], {"name": "next", "type": "{x:Nat"}]), "entry 1 has an unreadable type, or one of over 4,096 levels"),
-    ("a step with one member more", sent((3, {"more": 0})), "step 3 is no object of exactly `from`, `range`, `rule` and `type`, or `from`, `lower`, `rule` and `upper`"),
-    ("no such rule of typing", sent((4, {"rule": "S-Refl"})), "step 4 names no rule of its kind"),
-    ("no such rule of subtyping", sent((2, {"rule": "T-Sub"})), "step 2 names no rule of its kind"),
+    ("a step with one member more", sent((3, {"more": 0})), "step 3 is not an object with exactly the members `from`, `range`, `rule` and `type`, or `from`, `lower`, `rule` and `upper`"),
+    ("no such rule of typing", sent((4, {"rule": "S-Refl"})), "step 4 does not name a rule of its kind"),
+    ("no such rule of subtyping", sent((2, {"rule": "T-Sub"})), "step 2 does not name a rule of its kind"),
     ("a type that is cut", sent((3, {"type": "{x:Nat"})), "step 3 has an unreadable type, or one of over 4,096 levels"),
     ("a lower type that is no text", sent((2, {"lower": 7})), "step 2 has an unreadable type, or one of over 4,096 levels"),
     ("an upper type with a blank before it", sent((2, {"upper": " {x:Nat}"})), "step 2 has an unreadable type, or one of over 4,096 levels"),
-    ("a range behind the text", sent((4, {"range": place(9, 0, 4)})), "step 4 has no range of characters of the text"),
-    ("a premise that is no number", sent((3, {"from": [1, "2"]})), "`from` of step 3 is no list of step numbers"),
-    ("premises that are no list", sent((2, {"from": 0})), "`from` of step 2 is no list of step numbers"),
-    ("a wrong entry after a wrong step", sent((2, {"from": 0}), names=[NAMES[0], 7]), "entry 1 is no object of a name and a type"),
-    ("a step of which nothing is right", sent((4, {"from": 0, "range": 7, "rule": "T-Foo", "type": 7})), "step 4 names no rule of its kind"),
-    ("wrong premises and a wrong range", sent((4, {"from": 0, "range": 7, "type": 7})), "`from` of step 4 is no list of step numbers"),
-    ("a wrong range and a wrong type", sent((4, {"range": 7, "type": 7})), "step 4 has no range of characters of the text"),
+    ("a range behind the text", sent((4, {"range": place(9, 0, 4)})), "step 4 does not have a range of characters of the text"),
+    ("a premise that is no number", sent((3, {"from": [1, "2"]})), "`from` of step 3 is not a list of step numbers"),
+    ("premises that are no list", sent((2, {"from": 0})), "`from` of step 2 is not a list of step numbers"),
+    ("a wrong entry after a wrong step", sent((2, {"from": 0}), names=[NAMES[0], 7]), "entry 1 is not an object with a name and a type"),
+    ("a step of which nothing is right", sent((4, {"from": 0, "range": 7, "rule": "T-Foo", "type": 7})), "step 4 does not name a rule of its kind"),
+    ("wrong premises and a wrong range", sent((4, {"from": 0, "range": 7, "type": 7})), "`from` of step 4 is not a list of step numbers"),
+    ("a wrong range and a wrong type", sent((4, {"range": 7, "type": 7})), "step 4 does not have a range of characters of the text"),
 ]
 
 
@@ -419,15 +419,15 @@ CASES = [
     Case("another type", ["--verify", "d"], {"a": CALL, "d": sent((1, {"type": "{x:Nat}"}))}, "d: " + BELOW.format(1) + "\n", 1),
     Case("another supertype", ["--verify", "d"], {"a": CALL, "d": sent((2, {"upper": "{x:Bool}"}))}, "d: " + BELOW.format(2) + "\n", 1),
     Case("another rule", ["--verify", "d"], {"a": CALL, "d": sent((2, {"rule": "S-RcdDepth"}))}, "d: " + BELOW.format(2) + "\n", 1),
-    Case("no step", ["--verify", "d"], {"a": CALL, "d": sent(steps=[])}, "d: it has no step\n", 1),
+    Case("no step", ["--verify", "d"], {"a": CALL, "d": sent(steps=[])}, "d: it has no steps\n", 1),
     Case("the first of two wrong steps", ["--verify", "d"], {"a": CALL, "d": sent((4, {"type": "Bool"}), steps=[*PROOF[:1], {**PROOF[1], "rule": "T-Unit"}, *PROOF[2:]])}, "d: " + BELOW.format(1) + "\n", 1),
     Case("a premise about no part of the term", ["--verify", "d"], {"a": CALL, "d": sent(steps=[*PROOF[:4], PROOF[1], {**PROOF[4], "from": [0, 3, 4]}])}, "d: " + BELOW.format(5) + "\n", 1),
     Case("a premise is dropped", ["--verify", "d"], {"a": CALL, "d": sent((3, {"from": [1]}))}, "d: the premises of step 3 are not the last steps of the proofs directly before it\n", 1),
-    Case("steps are cut", ["--verify", "d"], {"a": CALL, "d": sent(steps=PROOF[:4])}, "d: the steps do not make one proof of typing that ends in step 3\n", 1),
+    Case("steps are cut", ["--verify", "d"], {"a": CALL, "d": sent(steps=PROOF[:4])}, "d: the steps do not form one proof of typing that ends in step 3\n", 1),
     Case("another range", ["--verify", "d"], {"a": CALL, "d": sent((0, {"range": place(2, 0, 3)}))}, "d: step 0 does not have the range of its term\n", 1),
-    Case("a range outside", ["--verify", "d"], {"a": CALL, "d": sent((0, {"range": place(9, 0, 4)}))}, "d: step 0 has no range of characters of the text\n", 1),
+    Case("a range outside", ["--verify", "d"], {"a": CALL, "d": sent((0, {"range": place(9, 0, 4)}))}, "d: step 0 does not have a range of characters of the text\n", 1),
     Case("another text", ["--verify", "d"], {"a": CALL.replace("next p", "nest p"), "d": sent()}, "d: " + BELOW.format(0) + "\n", 1),
-    Case("other names", ["--verify", "d"], {"a": CALL, "d": sent(names=NAMES[:1])}, "d: the context has other names than those that the term sees\n", 1),
+    Case("other names", ["--verify", "d"], {"a": CALL, "d": sent(names=NAMES[:1])}, "d: the names of the context are not those that the term sees\n", 1),
     Case("the least types of names", ["--verify", "d"], {"a": USED, "d": used("{a:Nat, b:Bool}", "{b:Bool, a:Nat}")}, "d: accepted: r:{a:Nat, b:Bool}, s:{b:Bool, a:Nat} |- r : {a:Nat, b:Bool}\n", 0),
     Case("another order of fields in the type of a term", ["--verify", "d"], {"a": USED, "d": used("{b:Bool, a:Nat}", "{b:Bool, a:Nat}")}, "d: accepted: r:{b:Bool, a:Nat}, s:{b:Bool, a:Nat} |- r : {b:Bool, a:Nat}\n", 0),
     Case("another order of fields in a written type", ["--verify", "d"], {"a": USED, "d": used("{a:Nat, b:Bool}", "{a:Nat, b:Bool}")}, ENTRY.format(1), 1),
@@ -470,13 +470,15 @@ CASES = [
     Case("no premise of subtyping where the rule has one", ["--verify", "d"], derived("unit", step("T-Unit", 0, 4, "Unit"), step("T-Sub", 0, 4, "Unit", 0)), "d: " + BELOW.format(1) + "\n", 1),
     Case("a wider type a thousand arrows deep", ["--verify", "d"], wider("Nat", "Top"), f"d: accepted: y:{arrows(1000, 'Nat')}, x:{arrows(1000, 'Top')} |- 0 : Nat\n", 0),
     Case("a narrower type a thousand arrows deep", ["--dialect", "2", "--verify", "d"], wider("Top", "Nat"), ENTRY.format(1), 1),
-    Case("no such rule", ["--verify", "d"], {"a": CALL, "d": sent((0, {"rule": "T-Foo"}))}, "d: step 0 names no rule of its kind\n", 1),
+    Case("no such rule", ["--verify", "d"], {"a": CALL, "d": sent((0, {"rule": "T-Foo"}))}, "d: step 0 does not name a rule of its kind\n", 1),
     Case("no type", ["--verify", "d"], {"a": CALL, "d": sent((0, {"type": "{x:Nat"}))}, "d: step 0 has an unreadable type, or one of over 4,096 levels\n", 1),
     *(Case(name, ["--verify", "d"], {"a": CALL, "d": told}, f"d: {why}\n", 1) for name, told, why in UNREAD),
-    Case("no derivation", ["--verify", "d"], {"a": CALL, "d": line({"derivation": None, "file": "a"})}, "d: it is no object of exactly `context` and `steps`, both lists\n", 1),
-    Case("a file beside its lists", ["--verify", "--of", "a", "d"], {"a": "0", "d": line(dict(STEPS, file="a"))}, "d: it is no object of exactly `context` and `steps`, both lists\n", 1),
-    Case("a line below a derivation is no JSON", ["--verify", "d"], {"a": CALL, "d": "\n" + sent() + "x\n" + sent()}, ACCEPTED + "d: it is no JSON: invalid JSON at line 3 column 1\n" + ACCEPTED, 1),
-    Case("JSON is cut", ["--verify", "d"], {"a": CALL, "d": sent()[:14]}, "d: it is no JSON: EOF while parsing at line 1 column 14\n", 1),
+    Case("no derivation", ["--verify", "d"], {"a": CALL, "d": line({"derivation": None, "file": "a"})}, "d: it is not an object with exactly the members `context` and `steps`, both lists\n", 1),
+    Case("a file beside its lists", ["--verify", "--of", "a", "d"], {"a": "0", "d": line(dict(STEPS, file="a"))}, "d: it is not an object with exactly the members `context` and `steps`, both lists\n", 1),
+    Case("a line below a derivation is not JSON", ["--verify", "d"], {"a": CALL, "d": "\n" + sent() + "x\n" + sent()}, ACCEPTED + "d: it is not JSON: invalid JSON at line 3 column 1\n" + ACCEPTED, 1),
+    Case("300,000 lines that are not JSON", ["--verify", "--of", "a", "d"], {"a": "0", "d": "0\n" + "x\n" * 299_999},
+         "d: it is not an object with exactly the members `context` and `steps`, both lists\n" + "".join(f"d: it is not JSON: invalid JSON at line {n} column 1\n" for n in range(2, 300_001)), 1),
+    Case("JSON is cut", ["--verify", "d"], {"a": CALL, "d": sent()[:14]}, "d: it is not JSON: EOF while parsing at line 1 column 14\n", 1),
     Case("derivations not in UTF-8", ["--verify", "d"], {"d": b"\xff"}, "", 4, refused("d", "it is not UTF-8 from byte 0 on")),
     Case("a text that is gone", ["--verify", "d"], {"d": sent()}, "", 4, refused("a", "No such file or directory (os error 2)")),
     Case("the function that a letrec stands for", ["--verify", "d"], derived("letrec f:Nat->Nat = lambda n:Nat. n in f 0", step("T-Var", 34, 35, "Nat"), step("T-Abs", 20, 35, "Nat->Nat", 0), step("T-Abs", 20, 35, "(Nat->Nat)->Nat->Nat", 1)), OTHER_NAMES, 1),

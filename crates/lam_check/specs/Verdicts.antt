@@ -67,26 +67,26 @@ accepted_line name text x = line (shown_line name ++ codes ": accepted: " ++ sho
 
 -- the message of a fault
 unfoldable pub message : FirstFault → Text
-message faults.NoStep = codes "it has no step"
+message faults.NoStep = codes "it has no steps"
 message (faults.Premises n) = codes "the premises of step " ++ decimal n ++ codes " are not the last steps of the proofs directly before it"
-message (faults.Loose n) = codes "the steps do not make one proof of typing that ends in step " ++ decimal n
+message (faults.Loose n) = codes "the steps do not form one proof of typing that ends in step " ++ decimal n
 message faults.TooLarge = codes "the text has a type of more than 4,096 nodes"
-message (faults.NoTerm n) = codes "step " ++ decimal n ++ codes " is about no term of the text"
-message faults.Names = codes "the context has other names than those that the term sees"
+message (faults.NoTerm n) = codes "step " ++ decimal n ++ codes " is not about a term of the text"
+message faults.Names = codes "the names of the context are not those that the term sees"
 message (faults.Entry n) = codes "entry " ++ decimal n ++ codes " of the context does not fit its name in the text"
 message (faults.Step n) = codes "step " ++ decimal n ++ codes " does not follow by its rule from its premises"
 message (faults.Range n) = codes "step " ++ decimal n ++ codes " does not have the range of its term"
 
 -- why a value is not read as a derivation
 unfoldable pub unread_text : Unread → Text
-unread_text unread.Derivation = codes "it is no object of exactly `context` and `steps`, both lists"
-unread_text (unread.Entry n) = codes "entry " ++ decimal n ++ codes " is no object of a name and a type"
+unread_text unread.Derivation = codes "it is not an object with exactly the members `context` and `steps`, both lists"
+unread_text (unread.Entry n) = codes "entry " ++ decimal n ++ codes " is not an object with a name and a type"
 unread_text (unread.EntryType n) = codes "entry " ++ decimal n ++ codes " has an unreadable type, or one of over 4,096 levels"
-unread_text (unread.Step n) = codes "step " ++ decimal n ++ codes " is no object of exactly `from`, `range`, `rule` and `type`, or `from`, `lower`, `rule` and `upper`"
-unread_text (unread.Rule n) = codes "step " ++ decimal n ++ codes " names no rule of its kind"
+unread_text (unread.Step n) = codes "step " ++ decimal n ++ codes " is not an object with exactly the members `from`, `range`, `rule` and `type`, or `from`, `lower`, `rule` and `upper`"
+unread_text (unread.Rule n) = codes "step " ++ decimal n ++ codes " does not name a rule of its kind"
 unread_text (unread.Type n) = codes "step " ++ decimal n ++ codes " has an unreadable type, or one of over 4,096 levels"
-unread_text (unread.Range n) = codes "step " ++ decimal n ++ codes " has no range of characters of the text"
-unread_text (unread.From n) = codes "`from` of step " ++ decimal n ++ codes " is no list of step numbers"
+unread_text (unread.Range n) = codes "step " ++ decimal n ++ codes " does not have a range of characters of the text"
+unread_text (unread.From n) = codes "`from` of step " ++ decimal n ++ codes " is not a list of step numbers"
 unread_text unread.Memory = codes "out of memory"
 
 -- `NAME: MESSAGE`

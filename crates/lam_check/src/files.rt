@@ -27,10 +27,7 @@ pub fn text_of<R: Files + Input>(rt: &R, alloc: Global, name: &str) -> Result<St
     let bytes = if name == INPUT {
         bytes_of(alloc, rt.reader())?
     } else {
-        match fs::open(rt, name) {
-            Ok(file) => bytes_of(alloc, file)?,
-            Err(error) => return Err(device_fault(error)),
-        }
+        bytes_of(alloc, fs::open(rt, name).map_err(device_fault)?)?
     };
     if bytes.len() as u64 > LIMIT {
         return Err(ReadFault::TooLarge);
@@ -41,10 +38,11 @@ pub fn text_of<R: Files + Input>(rt: &R, alloc: Global, name: &str) -> Result<St
 /// Reads all bytes, but at most one more than a text may have.
 fn bytes_of<R: Read + Drop>(alloc: Global, reader: R) -> Result<Vec<u8>, ReadFault> {
     let mut bytes = Vec::new(alloc);
-    match reader.take(LIMIT + 1).read_to_end(&mut bytes) {
-        Ok(_) => Ok(bytes),
-        Err(error) => Err(device_fault(error)),
-    }
+    reader
+        .take(LIMIT + 1)
+        .read_to_end(&mut bytes)
+        .map_err(device_fault)?;
+    Ok(bytes)
 }
 
 fn device_fault(error: io::Error) -> ReadFault {

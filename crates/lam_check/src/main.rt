@@ -87,20 +87,14 @@ fn paint_for<R: AllocGlobal + Env>(rt: &R, terminal: bool) -> Paint {
         return Paint::Plain;
     }
     match env::var(rt, "NO_COLOR") {
-        Ok(value) => {
-            if value.is_empty() {
-                Paint::Colours
-            } else {
-                Paint::Plain
-            }
-        }
-        Err(_) => Paint::Colours,
+        Ok(value) if !value.is_empty() => Paint::Plain,
+        _ => Paint::Colours,
     }
 }
 
 /// Reports that the arguments could not be read, and returns the exit status.
 fn refuse<R: Eprint>(rt: &R, error: &io::Error) -> u8 {
-    let _ = eprintln!(rt; "lam_check: the words cannot be read: {error}");
+    let _ = eprintln!(rt; "lam_check: cannot read the arguments: {error}");
     if error.kind() == ErrorKind::OutOfMemory {
         return MEMORY;
     }

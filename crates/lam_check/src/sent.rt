@@ -7,6 +7,7 @@ use crate::{
     DEVICE, FAULTLESS, FAULTY, STANDARD_INPUT, tell, tell_checked, tell_of, want_of_memory,
 };
 use serde_json::{Category, Error, Value};
+use std::alloc::{AllocError, Global};
 use std::rt::Files;
 
 /// Verifies the derivations in a file, which are the whole file or one on each line. Prints the results, and returns the exit
@@ -25,7 +26,7 @@ pub fn tell_verdicts<R: AllocGlobal + Files + Input + Print + Eprint>(
         Some((first, _)) if Value::from_str(rt.alloc(), first).is_ok() => {
             tell_lines(rt, asked, name, text)
         }
-        _ => tell_no_json(rt, name, &fault),
+        _ => tell_no_json(rt, name, &fault, 0),
     }
 }
 
@@ -43,31 +44,11 @@ fn tell_lines<R: AllocGlobal + Files + Input + Print + Eprint>(
         }
         let own = match Value::from_str(rt.alloc(), line) {
             Ok(value) => tell_verdict(rt, asked, name, &value),
-            Err(_) => tell_no_json_line(rt, name, above, line),
+            Err(fault) => tell_no_json(rt, name, &fault, above),
         };
         status = status.max(own);
     }
     status
-}
-
-/// Reports that a line is not JSON, and returns the exit status. It is read once more below as many empty lines as there are lines
-/// above it in its file, so that the position that is printed is one in the file.
-fn tell_no_json_line<R: AllocGlobal + Print + Eprint>(
-    rt: &R,
-    name: &str,
-    above: usize,
-    line: &str,
-) -> u8 {
-    let Ok(mut placed) = "\n".repeat(rt.alloc(), above) else {
-        return want_of_memory(rt);
-    };
-    if placed.push_str(line).is_err() {
-        return want_of_memory(rt);
-    }
-    match Value::from_str(rt.alloc(), &placed) {
-        Ok(_) => FAULTY,
-        Err(fault) => tell_no_json(rt, name, &fault),
-    }
 }
 
 /// Verifies one derivation. Prints the result, and returns the exit status for it.
@@ -100,14 +81,36 @@ fn readable(file: Option<&str>) -> Option<&str> {
     file
 }
 
-/// Reports that a text is not JSON, and returns the exit status.
-fn tell_no_json<R: AllocGlobal + Print + Eprint>(rt: &R, name: &str, fault: &Error) -> u8 {
+/// Reports that a text with so many lines above it in its file is not JSON, and returns the exit status.
+fn tell_no_json<R: AllocGlobal + Print + Eprint>(
+    rt: &R,
+    name: &str,
+    fault: &Error,
+    above: usize,
+) -> u8 {
     if fault.classify() == Category::Memory {
         return want_of_memory(rt);
     }
-    match format!(in rt.alloc(); "it is no JSON: {fault}") {
+    match no_json(rt.alloc(), fault, above) {
         Ok(what) => tell_line(rt, name, &what),
         Err(_) => want_of_memory(rt),
+    }
+}
+
+/// The message for a text that is not JSON, with the position in its file.
+fn no_json(alloc: Global, fault: &Error, above: usize) -> Result<String, AllocError> {
+    let told = format!(in alloc; "{fault}")?;
+    let reason = without_position(&told);
+    let line = above.saturating_add(fault.line());
+    let column = fault.column();
+    format!(in alloc; "it is not JSON: {reason} at line {line} column {column}")
+}
+
+/// A message of the JSON library without the position at its end.
+fn without_position(message: &str) -> &str {
+    match message.split_once(" at line ") {
+        Some((reason, _)) => reason,
+        None => message,
     }
 }
 

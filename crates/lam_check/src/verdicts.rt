@@ -61,10 +61,12 @@ fn unread_message(alloc: Global, fault: Unread) -> Result<String, AllocError>
     let mut out = String::new(alloc);
     match fault {
         Unread::Derivation => {
-            out.push_str("it is no object of exactly `context` and `steps`, both lists")?;
+            out.push_str(
+                "it is not an object with exactly the members `context` and `steps`, both lists",
+            )?;
         }
         Unread::Entry(entry) => {
-            write!(out, "entry {entry} is no object of a name and a type")?;
+            write!(out, "entry {entry} is not an object with a name and a type")?;
         }
         Unread::EntryType(entry) => {
             write!(
@@ -75,17 +77,20 @@ fn unread_message(alloc: Global, fault: Unread) -> Result<String, AllocError>
         Unread::Step(step) => {
             write!(
                 out,
-                "step {step} is no object of exactly `from`, `range`, `rule` and `type`, or `from`, `lower`, `rule` and `upper`"
+                "step {step} is not an object with exactly the members `from`, `range`, `rule` and `type`, or `from`, `lower`, `rule` and `upper`"
             )?;
         }
-        Unread::Rule(step) => write!(out, "step {step} names no rule of its kind")?,
+        Unread::Rule(step) => write!(out, "step {step} does not name a rule of its kind")?,
         Unread::Type(step) => write!(
             out,
             "step {step} has an unreadable type, or one of over 4,096 levels"
         )?,
-        Unread::Range(step) => write!(out, "step {step} has no range of characters of the text")?,
+        Unread::Range(step) => write!(
+            out,
+            "step {step} does not have a range of characters of the text"
+        )?,
         Unread::From(step) => {
-            write!(out, "`from` of step {step} is no list of step numbers")?;
+            write!(out, "`from` of step {step} is not a list of step numbers")?;
         }
         Unread::Memory => return Err(AllocError),
     }
@@ -111,7 +116,7 @@ fn message_of(alloc: Global, fault: FirstFault) -> Result<String, AllocError>
 {
     let mut out = String::new(alloc);
     match fault {
-        FirstFault::NoStep => out.push_str("it has no step")?,
+        FirstFault::NoStep => out.push_str("it has no steps")?,
         FirstFault::Premises(step) => {
             write!(
                 out,
@@ -121,13 +126,13 @@ fn message_of(alloc: Global, fault: FirstFault) -> Result<String, AllocError>
         FirstFault::Loose(step) => {
             write!(
                 out,
-                "the steps do not make one proof of typing that ends in step {step}"
+                "the steps do not form one proof of typing that ends in step {step}"
             )?;
         }
         FirstFault::TooLarge => out.push_str("the text has a type of more than 4,096 nodes")?,
-        FirstFault::NoTerm(step) => write!(out, "step {step} is about no term of the text")?,
+        FirstFault::NoTerm(step) => write!(out, "step {step} is not about a term of the text")?,
         FirstFault::Names => {
-            out.push_str("the context has other names than those that the term sees")?;
+            out.push_str("the names of the context are not those that the term sees")?;
         }
         FirstFault::Entry(entry) => {
             write!(
