@@ -22,7 +22,8 @@ static NAME_ALONE: [&str; 1] = [NAME];
 static DIALECTS: [&str; 2] = ["1", "2"];
 
 const ABOUT: &str = "A language server for the typed lambda calculus with records and subtyping. \
-    It speaks LSP 3.17 on standard input and output.";
+    It speaks LSP 3.17 on standard input and output. The request fullsub/derivation asks for a \
+    derivation of the type under the cursor.";
 
 const STATUSES: &str = "Exit status: 0 after shutdown and exit, 1 if the input ends without them, \
     2 on a usage error, 3 if the input is not a sequence of frames, 4 if reading or writing fails, \

@@ -54,7 +54,7 @@ fn refuse<R: Eprint>(rt: &R, error: &io::Error) -> u8
     if error.kind() == ErrorKind::OutOfMemory {
         return report(rt, RunFault::Memory);
     }
-    let _ = eprintln!(rt; "lam_server: the words cannot be read: {error}");
+    let _ = eprintln!(rt; "lam_server: cannot read the arguments: {error}");
     USAGE
 }
 

@@ -162,18 +162,21 @@ fn answers_before_it_pulls_again(rt: HostRuntime) {
     assert_eq!(rt; writer.bytes(), ANSWERS.as_bytes());
 }
 
-/// The bodies of a session that opens and changes a text, and requests a type.
-const BODIES: [&str; 6] = [
+/// The bodies of a session that opens and changes a text, and requests a type, a derivation, completions and a rename.
+const BODIES: [&str; 9] = [
     "{\"jsonrpc\":\"2.0\",\"id\":0,\"method\":\"initialize\"}",
     "{\"jsonrpc\":\"2.0\",\"method\":\"textDocument/didOpen\",\"params\":{\"textDocument\":{\"uri\":\"file:///h\",\"text\":\"f : {a:Nat}->Nat; f {a=0, b=true}; f {}\"}}}",
     "{\"jsonrpc\":\"2.0\",\"method\":\"textDocument/didChange\",\"params\":{\"textDocument\":{\"uri\":\"file:///h\",\"version\":2},\"contentChanges\":[{\"range\":{\"start\":{\"line\":0,\"character\":33},\"end\":{\"line\":0,\"character\":34}},\"text\":\"0\"}]}}",
     "{\"jsonrpc\":\"2.0\",\"id\":1,\"method\":\"textDocument/hover\",\"params\":{\"textDocument\":{\"uri\":\"file:///h\"},\"position\":{\"line\":0,\"character\":18}}}",
-    "{\"jsonrpc\":\"2.0\",\"id\":2,\"method\":\"shutdown\"}",
+    "{\"jsonrpc\":\"2.0\",\"id\":2,\"method\":\"fullsub/derivation\",\"params\":{\"textDocument\":{\"uri\":\"file:///h\"},\"position\":{\"line\":0,\"character\":18}}}",
+    "{\"jsonrpc\":\"2.0\",\"id\":3,\"method\":\"textDocument/completion\",\"params\":{\"textDocument\":{\"uri\":\"file:///h\"},\"position\":{\"line\":0,\"character\":18}}}",
+    "{\"jsonrpc\":\"2.0\",\"id\":4,\"method\":\"textDocument/rename\",\"params\":{\"textDocument\":{\"uri\":\"file:///h\"},\"position\":{\"line\":0,\"character\":0},\"newName\":\"g\"}}",
+    "{\"jsonrpc\":\"2.0\",\"id\":5,\"method\":\"shutdown\"}",
     "{\"jsonrpc\":\"2.0\",\"method\":\"exit\"}",
 ];
 
 /// The number of answers due before each pull, and at the end.
-const OWED: [usize; 7] = [0, 1, 2, 3, 4, 5, 5];
+const OWED: [usize; 10] = [0, 1, 2, 3, 4, 5, 6, 7, 8, 8];
 
 /// The bodies as frames.
 fn frames(alloc: Global) -> Result<Vec<String>, AllocError> {
@@ -217,27 +220,27 @@ fn session(
 
 #[test]
 fn each_pull_fails_in_turn(rt: HostRuntime) -> Result<(), AllocError> {
-    for pull in 1..7usize {
-        let (outcome, written) = session(rt.alloc(), 6, pull as u64, 0)?;
+    for pull in 1..10usize {
+        let (outcome, written) = session(rt.alloc(), 9, pull as u64, 0)?;
         let (_, answers) = session(rt.alloc(), pull.wrapping_sub(1), 0, 0)?;
         assert_eq!(rt; outcome, Err(RunFault::Device));
         assert_eq!(rt; written, answers);
     }
-    let (outcome, _) = session(rt.alloc(), 6, 7, 0)?;
+    let (outcome, _) = session(rt.alloc(), 9, 10, 0)?;
     assert_eq!(rt; outcome, Ok(0));
     Ok(())
 }
 
-/// Five answers take two pushes and a flush each.
+/// Eight answers take two pushes and a flush each.
 #[test]
 fn each_push_and_flush_fails_in_turn(rt: HostRuntime) -> Result<(), AllocError> {
-    let (_, whole) = session(rt.alloc(), 6, 0, 0)?;
-    for call in 1..16u64 {
-        let (outcome, written) = session(rt.alloc(), 6, 0, call)?;
+    let (_, whole) = session(rt.alloc(), 9, 0, 0)?;
+    for call in 1..25u64 {
+        let (outcome, written) = session(rt.alloc(), 9, 0, call)?;
         assert_eq!(rt; outcome, Err(RunFault::Device));
         assert!(rt; whole.starts_with(&written));
     }
-    let (outcome, written) = session(rt.alloc(), 6, 0, 16)?;
+    let (outcome, written) = session(rt.alloc(), 9, 0, 25)?;
     assert_eq!(rt; outcome, Ok(0));
     assert_eq!(rt; written, whole);
     Ok(())

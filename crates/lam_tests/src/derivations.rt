@@ -1,5 +1,5 @@
 //! Derivations as trees, made of the steps of an answer: the checker of whole proofs accepts each for the term that it is about, and
-//! for no other.
+//! for no other, and none with a step left out.
 
 use crate::written::{check_rows, command_of};
 use Dialect::One;
@@ -169,6 +169,58 @@ static DERIVED: [((&str, usize, usize), &str); 7] = [
     ((JOINED, 25, 25), "{a:Bool} true"),
     ((RECURSIVE, 0, 0), "Nat->Nat true"),
 ];
+
+/// Leaves out the last step of each premise that ends with the use of a subtype.
+fn without_subsumption(alloc: Global, proof: TypeProof) -> Result<TypeProof, AllocError> {
+    let TypeProof {
+        rule,
+        ty,
+        typing: premises,
+        sub,
+    } = proof;
+    let mut typing = Vec::new(alloc);
+    for premise in premises {
+        if premise.rule == TypeRule::Sub {
+            typing.append(&mut own_premises(premise))?;
+        } else {
+            typing.push(premise)?;
+        }
+    }
+    Ok(TypeProof {
+        rule,
+        ty,
+        typing,
+        sub,
+    })
+}
+
+fn own_premises(proof: TypeProof) -> Vec<TypeProof> {
+    let TypeProof { typing, .. } = proof;
+    typing
+}
+
+/// The same as `derived` for one offset, with the uses of a subtype in the premises of the last step left out.
+fn cut(alloc: Global, (text, offset): (&str, usize)) -> Result<String, Fail> {
+    let Some(found) = derivation(alloc, text, offset, One)? else {
+        return Err(Fail::new("no derivation"));
+    };
+    let Derivation { context, steps } = found;
+    let entries = entries_of(alloc, context)?;
+    let proof = without_subsumption(alloc, proof_of(alloc, steps)?)?;
+    let accepted = is_accepted(alloc, (text, offset), &entries, &proof)?;
+    Ok(format!(in alloc; "{} {accepted}", text_of(alloc, &proof.ty)?)?)
+}
+
+static CUT: [((&str, usize), &str); 3] = [
+    ((APPLIED, 23), "Nat false"),
+    (("if true then 0 else false", 0), "Top false"),
+    (("if true then 0 else 1", 0), "Nat true"),
+];
+
+#[test]
+fn the_checker_misses_the_use_of_a_subtype(rt: HostRuntime) -> Result<(), Fail> {
+    check_rows(&rt, rt.alloc(), cut, &CUT)
+}
 
 #[test]
 fn the_checker_accepts_derivations(rt: HostRuntime) -> Result<(), Fail> {

@@ -1,13 +1,14 @@
-//! Types that no text contains: those that are too large, and one that has a label twice. The checkers of single steps are tested by
-//! `rows/check.py`, those of whole proofs by `derivations.rt`.
+//! Types that no text contains: those that are too large, and one that has a label twice. And the checker of proofs of subtyping;
+//! that of proofs of typing is tested by `derivations.rt`, those of single steps by `rows/check.py`.
 
-use crate::written::{check_rows, equal, fields};
+use crate::written::{check_rows, equal, fields, type_of};
 use Dialect::One;
 use lam_rules::{
     Core, Dialect, SubProof, SubRule, Ty, TypeProof, TypeRule, check_sub, check_type, copy_of,
     make_arrow, make_record, plain_text_of, same, size, text_of, wf,
 };
 use std::alloc::{AllocError, Global};
+use std::test::Fail;
 
 /// The size of a type, the lengths of its texts, and whether its copy is the same.
 fn described(alloc: Global, ty: &Ty) -> Result<String, AllocError> {
@@ -100,4 +101,77 @@ fn a_label_that_stands_twice(rt: HostRuntime) -> Result<(), AllocError> {
     assert!(rt; !twice_below_itself(rt.alloc())?);
     assert!(rt; !unit_under_twice(rt.alloc())?);
     Ok(())
+}
+
+/// The rule of a step of subtyping, and its two types.
+type Claim = (SubRule, &'static str, &'static str);
+
+/// The proof with this last step that follows from these.
+fn proof_from(
+    alloc: Global,
+    (rule, lower, upper): Claim,
+    premises: Vec<SubProof>,
+) -> Result<SubProof, Fail> {
+    Ok(SubProof {
+        rule,
+        lower: type_of(alloc, lower)?,
+        upper: type_of(alloc, upper)?,
+        premises,
+    })
+}
+
+/// Whether the checker accepts the proof with this last step that follows from the others.
+fn accepted(alloc: Global, (last, others): (Claim, &'static [Claim])) -> Result<String, Fail> {
+    let mut premises = Vec::new(alloc);
+    for claim in others {
+        premises.push(proof_from(alloc, *claim, Vec::new(alloc))?)?;
+    }
+    let proof = proof_from(alloc, last, premises)?;
+    Ok(format!(in alloc; "{}", check_sub(&proof, One))?)
+}
+
+const WIDER: Claim = (SubRule::RcdWidth, "{a:Nat, b:Bool}", "{a:Nat}");
+
+static STEPS: [((Claim, &[Claim]), &str); 6] = [
+    ((WIDER, &[]), "true"),
+    (
+        ((SubRule::RcdWidth, "{a:Nat, b:Bool}", "{b:Bool}"), &[]),
+        "false",
+    ),
+    (
+        (
+            (SubRule::RcdDepth, "{a:Nat, b:Bool}", "{a:Nat, b:Top}"),
+            &[(SubRule::Refl, "Nat", "Nat"), (SubRule::Top, "Bool", "Top")],
+        ),
+        "true",
+    ),
+    (
+        (
+            (SubRule::RcdDepth, "{a:Nat, b:Bool}", "{b:Bool, a:Nat}"),
+            &[
+                (SubRule::Refl, "Nat", "Nat"),
+                (SubRule::Refl, "Bool", "Bool"),
+            ],
+        ),
+        "false",
+    ),
+    (
+        (
+            (SubRule::Trans, "{a:Nat, b:Bool}", "Top"),
+            &[WIDER, (SubRule::Top, "{a:Nat}", "Top")],
+        ),
+        "true",
+    ),
+    (
+        (
+            (SubRule::Trans, "{a:Nat, b:Bool}", "Top"),
+            &[WIDER, (SubRule::Top, "{b:Bool}", "Top")],
+        ),
+        "false",
+    ),
+];
+
+#[test]
+fn proofs_of_subtyping_by_each_kind_of_step(rt: HostRuntime) -> Result<(), Fail> {
+    check_rows(&rt, rt.alloc(), accepted, &STEPS)
 }

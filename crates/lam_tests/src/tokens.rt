@@ -1,6 +1,7 @@
-//! The tokens of texts, on one line for each text.
+//! The tokens and the pieces of texts, on one line for each text.
 
 use crate::written::check_rows;
+use lam_syntax::pieces;
 use lam_token::{Span, Token, lex};
 use std::alloc::{AllocError, Global};
 
@@ -83,6 +84,36 @@ static TEXTS: [(&str, &str); 36] = [
 #[test]
 fn tokens_of_texts(rt: HostRuntime) -> Result<(), AllocError> {
     check_rows(&rt, rt.alloc(), shown, &TEXTS)
+}
+
+/// The pieces of a text, with a bar behind each and a dot behind each of its tokens.
+fn divided(alloc: Global, text: &str) -> Result<String, AllocError> {
+    let tokens = lex(alloc, text)?;
+    let mut line = String::new(alloc);
+    for piece in pieces(alloc, &tokens)? {
+        push_piece(&mut line, piece)?;
+    }
+    Ok(line)
+}
+
+fn push_piece(line: &mut String, piece: &[Token<'_>]) -> Result<(), AllocError> {
+    for token in piece {
+        write!(line, "{}.", token.text())?;
+    }
+    line.push_str("|")
+}
+
+static DIVIDED: [(&str, &str); 5] = [
+    ("", ""),
+    (" ;; /* ; */ ;", ""),
+    ("0", "0.|"),
+    ("x = 0; ; succ x", "x.=.0.|succ.x.|"),
+    ("-;/* 0; 1", "-.|/* 0; 1.|"),
+];
+
+#[test]
+fn pieces_of_texts(rt: HostRuntime) -> Result<(), AllocError> {
+    check_rows(&rt, rt.alloc(), divided, &DIVIDED)
 }
 
 #[test]
