@@ -23,12 +23,8 @@ pub fn answer<W: Sink>(
     requires { W.failed writer.old < 2 ^ 64 - 1 }
     ensures { AnswersBody (sink_of W.taken W.flushed W.failed) session.old body.now writer.old result session.new writer.new }
 {
-    let Ok(incoming) = classify(alloc, body) else {
-        return Err(RunFault::Memory);
-    };
-    let Ok(sent) = session.receive(incoming) else {
-        return Err(RunFault::Memory);
-    };
+    let incoming = classify(alloc, body)?;
+    let sent = session.receive(incoming)?;
     write_outgoing(alloc, writer, &sent)
 }
 
@@ -39,12 +35,8 @@ fn write_outgoing<W: Sink>(alloc: Global, writer: &mut W, sent: &[Outgoing]) -> 
     ensures { WritesValues (sink_of W.taken W.flushed W.failed) (map data_of sent.now) writer.old result writer.new }
 {
     for outgoing in sent {
-        let Ok(text) = outgoing.to_json(alloc) else {
-            return Err(RunFault::Memory);
-        };
-        let Ok(()) = write_frame(writer, text.as_bytes()) else {
-            return Err(RunFault::Device);
-        };
+        let text = outgoing.to_json(alloc)?;
+        write_frame(writer, text.as_bytes())?;
     }
     Ok(())
 }

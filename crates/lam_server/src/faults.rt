@@ -2,8 +2,10 @@
 
 ghost use Rattle.std.specs.Prelude.{◌≡◌};
 ghost use Rattle.lam_server.specs.Program.{fault_of_run, line_of, status_of};
+ghost use Rattle.lam_server.specs.declared.faults.RunFault.TheVariants.{Memory};
 
 use lam_frame::FrameFault;
+use std::alloc::AllocError;
 use thiserror::Error;
 
 #[derive(Clone, Copy, Debug, PartialEq, Eq, Error)]
@@ -20,14 +22,23 @@ pub enum RunFault {
     Memory,
 }
 
-/// Converts an error of reading a frame.
-pub fn fault_of_run(fault: FrameFault) -> RunFault
-    ensures { result ≡ fault_of_run fault }
-{
-    match fault {
-        FrameFault::Device | FrameFault::TooManyTurns | FrameFault::Spent => RunFault::Device,
-        FrameFault::Memory => RunFault::Memory,
-        _ => RunFault::Header(fault),
+impl From<AllocError> for RunFault {
+    ghost from_gives = { λ _ made. made ≡ Memory };
+
+    fn from(_refused: AllocError) -> RunFault {
+        RunFault::Memory
+    }
+}
+
+impl From<FrameFault> for RunFault {
+    ghost from_gives = { λ fault made. made ≡ fault_of_run fault };
+
+    fn from(fault: FrameFault) -> RunFault {
+        match fault {
+            FrameFault::Device | FrameFault::TooManyTurns | FrameFault::Spent => RunFault::Device,
+            FrameFault::Memory => RunFault::Memory,
+            _ => RunFault::Header(fault),
+        }
     }
 }
 

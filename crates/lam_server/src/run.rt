@@ -45,15 +45,9 @@ pub fn run<R: Source, W: Sink>(
     ensures one_output { (input : List ℕ) → HasOneOutput (fresh (dialect_of config)) input }
     ensures grows { (bytes : List ℕ) → OutputGrows (fresh (dialect_of config)) bytes }
 {
-    let Ok(mut server) = Server::new(alloc, config) else {
-        return Err(RunFault::Memory);
-    };
+    let mut server = Server::new(alloc, config)?;
     loop {
-        let turn = match server.turn(reader, writer) {
-            Ok(turn) => turn,
-            Err(fault) => return Err(fault),
-        };
-        match turn {
+        match server.turn(reader, writer)? {
             Turn::More(next) => server = next,
             Turn::End(status) => return Ok(status),
         }

@@ -5,7 +5,7 @@ ghost use Rattle.lam_frame.specs.Device.{source_of, sink_of};
 ghost use Rattle.lam_session.specs.State.{fresh, dialect_of};
 
 use crate::answer::answer;
-use crate::faults::{RunFault, fault_of_run};
+use crate::faults::RunFault;
 use lam_frame::{FrameReader, Sink, Source};
 use lam_session::{Config, Session};
 use std::alloc::{AllocError, Global};
@@ -78,16 +78,10 @@ impl Server {
             mut frames,
             mut session,
         } = self;
-        let read = match frames.next(reader) {
-            Ok(read) => read,
-            Err(fault) => return Err(fault_of_run(fault)),
-        };
-        let Some(body) = read else {
+        let Some(body) = frames.next(reader)? else {
             return Ok(Turn::End(NO_EXIT));
         };
-        if let Err(fault) = answer(alloc, &mut session, writer, &body) {
-            return Err(fault);
-        }
+        answer(alloc, &mut session, writer, &body)?;
         match session.ended() {
             Some(status) => Ok(Turn::End(status)),
             None => Ok(Turn::More(Server {
