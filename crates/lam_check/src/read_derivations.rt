@@ -17,6 +17,7 @@ ghost use Rattle.lam_session.specs.Ranges.{position_value, range_value};
 ghost use Rattle.lam_check.specs.Readable.{IsReadable, IsReadableConclusion, IsReadableOffset, IsReadableSpan, IsReadableType};
 ghost use Rattle.lam_check.specs.Unreadable.{AreNoPremises, IsReadableEntry, IsFirstWrong, IsNoReadableRange, IsNoSubRule, IsNoReadableType, IsNoTypeRule, IsReadableStep, IsWrongEntry, IsWrongFor, IsWrongStep, IsWrongSubtyping, IsWrongTyping, subtyping_members, typing_members};
 ghost use Rattle.lam_check.specs.declared.read_derivations.Unread.{Unread};
+ghost use Rattle.lam_check.specs.declared.read_derivations.Unread.TheVariants.{Memory};
 ghost use Rattle.lam_check.specs.inner.Read.{IfUnread, number_value};
 
 use crate::plain_types::type_of_text;
@@ -26,7 +27,7 @@ use lam_rules::{SubRule, Ty, TypeRule};
 use lam_text::{Doc, Position};
 use lam_token::Span;
 use serde_json::Value;
-use std::alloc::{AllocError, Global};
+use std::alloc::{AllocError, AllocFailed, Global};
 
 /// Why a value cannot be read as a derivation of a text. Entries and steps are counted from 0.
 #[derive(Clone, Copy, Debug, PartialEq, Eq)]
@@ -51,6 +52,22 @@ pub enum Unread {
     Memory,
 }
 
+impl From<AllocError> for Unread {
+    ghost from_gives = { λ _ fault. fault ≡ Memory };
+
+    fn from(_refused: AllocError) -> Unread {
+        Unread::Memory
+    }
+}
+
+impl<T: Drop> From<AllocFailed<T>> for Unread {
+    ghost from_gives = { λ _ fault. fault ≡ Memory };
+
+    fn from(_refused: AllocFailed<T>) -> Unread {
+        Unread::Memory
+    }
+}
+
 /// Reads a value as a derivation of the text. The error is about the first entry of the context, or else the first step, that
 /// cannot be read.
 pub fn derivation_in(alloc: Global, doc: &Doc, value: &Value) -> Result<Derivation, Unread>
@@ -68,14 +85,9 @@ pub fn derivation_in(alloc: Global, doc: &Doc, value: &Value) -> Result<Derivati
     let Some(steps) = steps.as_array() else {
         return Err(Unread::Derivation);
     };
-    let context = match context_in(alloc, context) {
-        Ok(context) => context,
-        Err(fault) => return Err(fault),
-    };
-    match steps_in(alloc, doc, steps) {
-        Ok(steps) => Ok(Derivation { context, steps }),
-        Err(fault) => Err(fault),
-    }
+    let context = context_in(alloc, context)?;
+    let steps = steps_in(alloc, doc, steps)?;
+    Ok(Derivation { context, steps })
 }
 
 /// A value is that of at most one readable derivation of a text.
@@ -92,13 +104,8 @@ fn context_in(alloc: Global, values: &[Value]) -> Result<Vec<(String, Option<Ty>
     let mut context = Vec::new(alloc);
     for i in 0..values.len() {
         let value = &values[i];
-        let entry = match entry_in(alloc, i, value) {
-            Ok(entry) => entry,
-            Err(fault) => return Err(fault),
-        };
-        let Ok(()) = context.push(entry) else {
-            return Err(Unread::Memory);
-        };
+        let entry = entry_in(alloc, i, value)?;
+        context.push(entry)?;
     }
     Ok(context)
 }
@@ -116,10 +123,8 @@ fn entry_in(alloc: Global, number: usize, value: &Value) -> Result<(String, Opti
         return Err(Unread::Entry(number));
     };
     let ty = entry_type_in(alloc, number, ty)?;
-    match String::from_str(alloc, name) {
-        Ok(name) => Ok((name, ty)),
-        Err(_) => Err(Unread::Memory),
-    }
+    let name = String::from_str(alloc, name)?;
+    Ok((name, ty))
 }
 
 /// Reads the type of the context entry with this index; `None` if it has no type.
@@ -131,10 +136,9 @@ fn entry_type_in(alloc: Global, number: usize, value: &Value) -> Result<Option<T
     if value.is_null() {
         return Ok(None);
     }
-    match type_in(alloc, value) {
-        Ok(Some(ty)) => Ok(Some(ty)),
-        Ok(None) => Err(Unread::EntryType(number)),
-        Err(_) => Err(Unread::Memory),
+    match type_in(alloc, value)? {
+        Some(ty) => Ok(Some(ty)),
+        None => Err(Unread::EntryType(number)),
     }
 }
 
@@ -159,13 +163,8 @@ fn steps_in(alloc: Global, doc: &Doc, values: &[Value]) -> Result<Vec<Step>, Unr
     let mut steps = Vec::new(alloc);
     for i in 0..values.len() {
         let value = &values[i];
-        let step = match step_in(alloc, doc, i, value) {
-            Ok(step) => step,
-            Err(fault) => return Err(fault),
-        };
-        let Ok(()) = steps.push(step) else {
-            return Err(Unread::Memory);
-        };
+        let step = step_in(alloc, doc, i, value)?;
+        steps.push(step)?;
     }
     Ok(steps)
 }
@@ -252,10 +251,9 @@ fn step_type_in(alloc: Global, number: usize, value: &Value) -> Result<Ty, Unrea
     ensures readable { IfOk result (λ ty. IsReadableType (typ_of ty)) }
     ensures unread { IfUnread result (λ reason. (reason ≡ Unread.Type number) × IsNoReadableType (view value.now)) }
 {
-    match type_in(alloc, value) {
-        Ok(Some(ty)) => Ok(ty),
-        Ok(None) => Err(Unread::Type(number)),
-        Err(_) => Err(Unread::Memory),
+    match type_in(alloc, value)? {
+        Some(ty) => Ok(ty),
+        None => Err(Unread::Type(number)),
     }
 }
 
@@ -280,9 +278,7 @@ fn numbers_in(alloc: Global, number: usize, values: &[Value]) -> Result<Vec<usiz
         let Some(premise) = value.as_u64() else {
             return Err(Unread::From(number));
         };
-        let Ok(()) = numbers.push(premise as usize) else {
-            return Err(Unread::Memory);
-        };
+        numbers.push(premise as usize)?;
     }
     Ok(numbers)
 }
