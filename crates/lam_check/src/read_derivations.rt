@@ -3,7 +3,6 @@ ghost use Rattle.std.specs.Prelude.{◌≡◌, ◌≢◌, ℕ, List, Option, map
 ghost use Rattle.std.specs.Str.{IsUtf8};
 ghost use Rattle.serde_json.specs.Data.{null, string};
 ghost use Rattle.serde_json.specs.View.{view};
-ghost use Rattle.lam_rules.specs.Types.{Typ};
 ghost use Rattle.lam_rules.specs.TypeViews.{typ_of};
 ghost use Rattle.lam_rules.specs.TermViews.{written_of};
 ghost use Rattle.lam_rules.specs.Texts.{plain_text};

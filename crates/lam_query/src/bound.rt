@@ -195,10 +195,7 @@ impl Meanings {
     pub(crate) fn under(&self, number: usize) -> Option<Option<TyNo>>
         ensures { result ≡ kept_under self.now number }
     {
-        match self.entries.get(number) {
-            Some(entry) => *entry,
-            None => None,
-        }
+        *self.entries.get(number)?
     }
 
     /// Returns the meanings of all names, indexed by name number.

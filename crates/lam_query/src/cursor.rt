@@ -51,53 +51,35 @@ pub(crate) fn touched_word(piece: &str, from: usize, offset: usize) -> Option<us
 pub(crate) fn is_in_front(token: &Token<'_>, offset: usize) -> bool
     ensures { result ≡ is_in_front offset token.now }
 {
-    if is_touched(token, offset) {
-        return false;
-    }
-    token.end() <= offset
+    !is_touched(token, offset) && token.end() <= offset
 }
 
 /// Whether the token is not a word that the cursor touches, and starts after the cursor or at it.
 pub(crate) fn is_behind(token: &Token<'_>, offset: usize) -> bool
     ensures { result ≡ is_behind offset token.now }
 {
-    if is_touched(token, offset) {
-        return false;
-    }
-    offset <= token.start()
+    !is_touched(token, offset) && offset <= token.start()
 }
 
 /// Whether the token is not a word that the cursor touches, and has the cursor strictly inside.
 fn is_around(token: &Token<'_>, offset: usize) -> bool
     ensures { result ≡ is_around offset token.now }
 {
-    if is_touched(token, offset) {
-        return false;
-    }
-    if offset <= token.start() {
-        return false;
-    }
-    offset < token.end()
+    !is_touched(token, offset) && token.start() < offset && offset < token.end()
 }
 
 /// Whether the token is a word with the cursor inside, or at its start or end.
 fn is_touched(token: &Token<'_>, offset: usize) -> bool
     ensures { result ≡ is_touched offset token.now }
 {
-    if !is_word(token.kind()) {
-        return false;
-    }
-    reaches(token, offset)
+    is_word(token.kind()) && reaches(token, offset)
 }
 
 /// Whether the offset is inside the token, or just after it.
 fn reaches(token: &Token<'_>, offset: usize) -> bool
     ensures { result ≡ reaches offset token.now }
 {
-    if offset < token.start() {
-        return false;
-    }
-    offset <= token.end()
+    token.start() <= offset && offset <= token.end()
 }
 
 /// Returns the offset of the token, if it is a dot.

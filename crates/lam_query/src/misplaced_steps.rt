@@ -92,19 +92,11 @@ fn are_subtypings(premises: &[usize], steps: &[Step]) -> bool
 fn is_typing(step: Option<&Step>) -> bool
     ensures { IsTrue result ↔ IsTypingSaid (said_by step.entry) }
 {
-    match step {
-        Some(Step::Typing { .. }) => true,
-        Some(Step::Sub { .. }) => false,
-        None => false,
-    }
+    matches!(step, Some(Step::Typing { .. }))
 }
 
 fn is_subtyping(step: Option<&Step>) -> bool
     ensures { IsTrue result ↔ IsSubtypingSaid (said_by step.entry) }
 {
-    match step {
-        Some(Step::Sub { .. }) => true,
-        Some(Step::Typing { .. }) => false,
-        None => false,
-    }
+    matches!(step, Some(Step::Sub { .. }))
 }

@@ -33,13 +33,7 @@ pub(crate) fn touched(text: &str, offset: usize) -> Option<usize>
 fn is_name_over(token: &Token<'_>, offset: usize) -> bool
     ensures { result ≡ is_name_over offset token.now }
 {
-    if !is_name(token.kind()) {
-        return false;
-    }
-    if offset < token.start() {
-        return false;
-    }
-    offset < token.end()
+    is_name(token.kind()) && token.start() <= offset && offset < token.end()
 }
 
 /// Returns the start of the token, if it is a name or a type name that ends at the offset.
@@ -58,9 +52,5 @@ fn name_before(token: &Token<'_>, offset: usize) -> Option<usize>
 fn is_name(kind: Kind) -> bool
     ensures { result ≡ is_name_kind kind }
 {
-    match kind {
-        Kind::Name => true,
-        Kind::TypeName => true,
-        _ => false,
-    }
+    matches!(kind, Kind::Name | Kind::TypeName)
 }

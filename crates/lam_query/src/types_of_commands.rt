@@ -116,10 +116,7 @@ fn copy_of(alloc: Global, name: &Identifier) -> Result<String, AllocError>
 fn last_of(types: &[Option<TyNo>]) -> Option<TyNo>
     ensures { result ≡ last_number types.now }
 {
-    match types.last() {
-        Some(last) => *last,
-        None => None,
-    }
+    *types.last()?
 }
 
 /// Returns the text of the type with this id, if there is one.

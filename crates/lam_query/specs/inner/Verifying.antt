@@ -1,16 +1,14 @@
 -- Intermediate facts of the verification. For private functions alone.
-use Rattle.std.specs.Prelude.{◌≡◌, ◌<◌, ℕ, List, length, get_or, map, take, Option, Some, None}
+use Rattle.std.specs.Prelude.{◌<◌, ℕ, List, length, get_or, take, Option, Some, None}
 use Rattle.std.specs.List.{AllZip}
-use Rattle.lam_rules.specs.TermViews.{written_of}
 use Rattle.lam_rules.specs.declared.rules.Dialect.{Dialect}
 use Rattle.lam_syntax.specs.Trees.{CommandTree}
 use Rattle.lam_scope.specs.PlacedTerms.{PlacedTree, document_terms}
 use Rattle.lam_scope.specs.Views.{AreScopesOf}
 use Rattle.lam_query.specs.Derivations.{Derivation}
-use Rattle.lam_query.specs.FirstFaults.{AreOfOneProof, IsFaultAt, IsFaultIn}
+use Rattle.lam_query.specs.FirstFaults.{IsFaultAt, IsFaultIn}
 use Rattle.lam_query.specs.Verified.{IsProofAt, IsProofOf}
 use Rattle.lam_query.specs.declared.answers.FirstFault.{FirstFault}
-use Rattle.lam_query.specs.Views.{derivation_of}
 use Rattle.lam_query.specs.declared.verify.TypedText.{TypedText}
 use Rattle.lam_query.specs.inner.Typings.{AreTypesOf}
 
