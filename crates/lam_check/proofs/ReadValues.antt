@@ -1,12 +1,11 @@
 -- What is read of values, one after another.
-use Rattle.std.proofs.Common.{◌≡◌, Some, None, Result, Ok, Err, eqb, ℕ, ◌+◌, ◌<◌, ◌≤◌, zero, suc, List, [], ◌∷◌, ◌++◌, length, get_or, map, take, true, not, ◌&&◌, refl, sym, ap, subst, ◌∙◌, arith, true≢false}
+use Rattle.std.proofs.Common.{◌≡◌, Some, None, Result, Ok, Err, ℕ, ◌+◌, ◌<◌, ◌≤◌, zero, suc, List, [], ◌∷◌, ◌++◌, length, get_or, map, take, not, refl, sym, ap, ◌∙◌, arith}
 use Rattle.std.specs.List.{All}
 use Rattle.std.proofs.lemmas.List.{take_more, take_all, map-append}
 use Rattle.std.proofs.lemmas.List.Elements.{All-push, All-same}
 use Rattle.std.proofs.lemmas.Simd.{map-map}
 use Rattle.std.specs.Str.{IsUtf8}
 use Rattle.std.specs.Option.{option_and_then}
-use Rattle.std.proofs.lemmas.Bool.{eq-eqb}
 use Rattle.serde_json.specs.Data.{Data, array, object, member, no_members, item, no_items}
 use Rattle.serde_json.specs.Find.{as_array, as_number, as_u64}
 use Rattle.serde_json.specs.View.{view, items_of, items_view}
@@ -71,13 +70,6 @@ position_is encoding text value offset p utf8 readable is there =
     ap (λ q. position_of encoding text (offset_of encoding text q)) same
     ∙ ap (position_of encoding text) (comes_back encoding text offset utf8 readable.boundary readable.outside)
     ∙ sym same
-
-pub not_other_place : (a b : Position) → true ≡ not (eqb a.line b.line && eqb a.character b.character) → a ≡ b → ⊥
-not_other_place a b differ same =
-    let here : true ≡ not (eqb b.line b.line && eqb b.character b.character) = subst (λ (p : Position). true ≡ not (eqb p.line b.line && eqb p.character b.character)) same differ in
-    let line = eq-eqb b.line b.line refl in
-    let character = eq-eqb b.character b.character refl in
-    true≢false (here ∙ (λ i. not (line i && character i)))
 
 -- ---- what was not read
 

@@ -4,6 +4,7 @@ ghost use Rattle.lam_text.specs.declared.units.Encoding.{Encoding as Units};
 ghost use Rattle.lam_check.specs.Absences.{IsAbsence, absence_text};
 ghost use Rattle.lam_check.specs.Drawings.{HasPlace};
 
+use crate::positions::offset_at;
 use lam_text::{Doc, Encoding, Position};
 use std::alloc::{AllocError, Global};
 
@@ -55,5 +56,5 @@ fn has_place(doc: &Doc, place: Position) -> bool
     requires { doc.now.encoding ≡ Units.Utf32 }
     ensures { IsTrue result ↔ HasPlace doc.now.text place }
 {
-    doc.position_of(doc.offset_of(place)) == place
+    offset_at(doc, place).is_some()
 }

@@ -10,6 +10,7 @@ ghost use Rattle.lam_check.specs.inner.Drawing.{Stands, AllStand};
 ghost use Rattle.lam_check.specs.inner.Roles.{RoleStandsIn};
 
 use crate::forms::{Form, Markup, push_written};
+use crate::positions::offset_at;
 use crate::terms::{Role, first_role, push_shown_term};
 use lam_query::answers::{Derivation, Step};
 use lam_query::derivation;
@@ -57,10 +58,9 @@ pub fn derivation_at(
     ensures verified { IfOk result (λ found. IfSome found (λ x. IsVerified text.now (derivation_of x) dialect)) }
 {
     let doc = Doc::new(alloc, text, Encoding::Utf32)?;
-    let offset = doc.offset_of(place);
-    if doc.position_of(offset) != place {
+    let Some(offset) = offset_at(&doc, place) else {
         return Ok(None);
-    }
+    };
     derivation(alloc, text, offset, dialect)
 }
 

@@ -13,6 +13,7 @@ mod json;
 mod lines;
 mod paint;
 mod plain_types;
+mod positions;
 mod read_derivations;
 mod read_values;
 mod reports;

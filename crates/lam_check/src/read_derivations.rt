@@ -20,6 +20,7 @@ ghost use Rattle.lam_check.specs.declared.read_derivations.Unread.TheVariants.{M
 ghost use Rattle.lam_check.specs.inner.Read.{IfUnread, number_value};
 
 use crate::plain_types::type_of_text;
+use crate::positions::offset_at;
 use crate::read_values::{four_members, two_members};
 use lam_query::answers::{Derivation, Step};
 use lam_rules::{SubRule, Ty, TypeRule};
@@ -305,11 +306,7 @@ fn offset_in(doc: &Doc, value: &Value) -> Option<usize>
     ensures none { IfNone result ((offset : ℕ) → IsReadableOffset doc.now.text offset → view value.now ≡ position_value (position_of doc.now.encoding doc.now.text offset) → ⊥) }
 {
     let position = position_in(value)?;
-    let offset = doc.offset_of(position);
-    if doc.position_of(offset) != position {
-        return None;
-    }
-    Some(offset)
+    offset_at(doc, position)
 }
 
 fn position_in(value: &Value) -> Option<Position>
