@@ -11,6 +11,7 @@ use Rattle.lam_rules.specs.declared.rules.TypeRule.{TypeRule}
 use Rattle.lam_rules.proofs.ByShape.{below_wf}
 use Rattle.lam_syntax.specs.Trees.{CommandTree}
 use Rattle.lam_scope.specs.Bindings.{IsOriginOf, AreOriginsOf}
+use Rattle.lam_scope.specs.Names.{shown_name}
 use Rattle.lam_scope.specs.Places.{Binding, written, of_term, Scope, Place, Statement, places_of, place_numbered}
 use Rattle.lam_scope.specs.PlacedTerms.{document_terms, term_of, tree_in}
 use Rattle.lam_scope.specs.Sights.{Sight, sight_numbered}
@@ -35,7 +36,10 @@ use Rattle.lam_typing.proofs.Together.{least_length}
 use Rattle.lam_query.specs.WellTypedDocuments.{statements_in}
 use Rattle.lam_query.proofs.RowsAndTerms.{number_told}
 use Rattle.lam_query.proofs.Small.{least_at}
+use Rattle.lam_query.proofs.Verifying.{as_long, names_there}
+use Rattle.lam_query.specs.Derivations.{Derivation}
 use Rattle.lam_query.specs.FirstFaults.{IsFirstUnfitEntry}
+use Rattle.lam_query.specs.Verified.{HasContext, HasNames, entries_listed}
 use Rattle.lam_typing.specs.Fitting.{FitsAt, FitsFound}
 use Rattle.lam_query.specs.declared.verify.TypedText.{TypedText}
 use Rattle.lam_query.specs.inner.Verifying.{IsFirstNot, IsTextOf}
@@ -295,9 +299,17 @@ module _ (cs : List CommandTree) (text : TypedText) (is_text : IsTextOf cs text)
       subst (λ s. IsFirstUnfitEntry s (reverse types) d k) (scope_is n)
       (first_unfit Stated Found sight (place_numbered Stated n).scope (reverse types) d k (sight_origins cs n) (sight_least n (within n inside)) own)
 
-  -- what is found wrong, if anything, by the numbers of the binders
-  pub unfit_is : (n : ℕ) (bs : List ℕ) (types : List (Option Typ)) (unfit : Option ℕ) → n < length (document_terms cs) → bs ≡ visible_at (table_of text.scopes) n → length bs ≡ length types
-      → MatchOption unfit (AllZip ByNumber bs types) (λ k. IsFirstNot ByNumber bs types k)
-      → MatchOption unfit (IsContext (term_of (tree_in (document_terms cs) n)).place.scope (reverse types) d) (λ k. IsFirstUnfitEntry (term_of (tree_in (document_terms cs) n)).place.scope (reverse types) d k)
-  unfit_is n bs types None inside seen long h = listed_context n bs types inside seen h
-  unfit_is n bs types (Some k) inside seen long h = listed_unfit n bs types k inside seen long h
+  -- what is found wrong with a context that lists the names in scope, if anything, by the numbers of the binders
+  pub context_is : (n : ℕ) (bs : List ℕ) (x : Derivation) (unfit : Option ℕ) → n < length (document_terms cs) → bs ≡ visible_at (table_of text.scopes) n
+      → map (λ e. e.name) x.context ≡ map (λ b. shown_name (binder_numbered (table_of text.scopes) b).name) (visible_at (table_of text.scopes) n)
+      → MatchOption unfit (AllZip ByNumber bs (map (λ e. e.type) x.context)) (λ k. IsFirstNot ByNumber bs (map (λ e. e.type) x.context) k)
+      → let term = tree_in (document_terms cs) n in
+      MatchOption unfit (HasContext term x d) (λ k. HasNames term x × IsFirstUnfitEntry (term_of term).place.scope (entries_listed x) d k)
+  context_is n bs x None inside seen named h = record {
+    names = named ∙ names_there cs text.scopes n is_text.are_scopes;
+    context = listed_context n bs (map (λ e. e.type) x.context) inside seen h;
+  }
+  context_is n bs x (Some k) inside seen named h =
+      let long = ap length seen ∙ sym (as_long (λ e. e.name) (λ b. shown_name (binder_numbered (table_of text.scopes) b).name) x.context (visible_at (table_of text.scopes) n) named)
+      ∙ sym (length-map x.context (λ e. e.type)) in
+      (named ∙ names_there cs text.scopes n is_text.are_scopes, listed_unfit n bs (map (λ e. e.type) x.context) k inside seen long h)

@@ -10,7 +10,6 @@ use Rattle.lam_token.specs.Cut as token
 use Rattle.lam_token.specs.declared.span.Span.{Span}
 use Rattle.lam_token.specs.Edits.{IsOne, AreSpansOf}
 use Rattle.lam_token.specs.Lexeme.{Lexeme, kind_of, start_of}
-use Rattle.lam_token.specs.Cut.{AreTokensOf}
 use Rattle.lam_token.proofs.NamePlaces.{AreNamePlaces, name_places}
 use Rattle.lam_syntax.specs.Trees.{CommandTree}
 use Rattle.lam_scope.specs.Tables.{table, binder_numbered, binder_at, use_tokens}

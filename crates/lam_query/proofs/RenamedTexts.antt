@@ -20,7 +20,7 @@ use Rattle.lam_syntax.specs.Answers.{pieces_of}
 use Rattle.lam_syntax.proofs.RespelledTrees.{command_is_respelled}
 use Rattle.lam_syntax.proofs.RespelledPieces.{pieces_respelled, taken_respelled}
 use Rattle.lam_scope.specs.Mentions as mention
-use Rattle.lam_scope.specs.Mentions.{Mention, binds_at, uses_at, labels_at, token_of, binder_of, mentions, bound_at, use_bound_to, uses_of, Ascend}
+use Rattle.lam_scope.specs.Mentions.{Mention, uses_at, token_of, binder_of, mentions, bound_at, uses_of, Ascend}
 use Rattle.lam_scope.specs.Nesting.{AreSpelledFrom}
 use Rattle.lam_scope.specs.Forms.{forms}
 use Rattle.lam_scope.specs.Tables.{table, binder_numbered, binder_at, use_tokens}

@@ -6,7 +6,7 @@ use Rattle.lam_rules.specs.Terms.{fix}
 use Rattle.lam_rules.specs.Typing.{Context, IsWellFormedContext, TypingTree, IsTyping}
 use Rattle.lam_rules.specs.declared.rules.Dialect.{Dialect}
 use Rattle.lam_syntax.specs.Trees as tree
-use Rattle.lam_syntax.specs.Trees.{word, bound, TypeTree, TermTree, term_tree, TermNode, CommandTree, definition, declaration, evaluation, term_span}
+use Rattle.lam_syntax.specs.Trees.{bound, TypeTree, TermTree, term_tree, TermNode, CommandTree, definition, declaration, evaluation, term_span}
 use Rattle.lam_scope.specs.Expansions.{Abbreviation, meaning, is_bound, expansion}
 use Rattle.lam_scope.specs.FreeNames.{without, free_in, free_in_node, free_in_fields, free_type_names_in, free_type_names_in_types, free_in_command}
 use Rattle.lam_scope.specs.Meanings.{entry_named, MeanTheSame, StandForTheSame}

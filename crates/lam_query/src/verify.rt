@@ -18,7 +18,7 @@ ghost use Rattle.lam_typing.specs.Typings.{dialect_of};
 ghost use Rattle.lam_query.specs.Steps.{last_span, span_in};
 ghost use Rattle.lam_query.specs.Views.{derivation_of, entry_of, step_of};
 ghost use Rattle.lam_query.specs.FirstFaults.{AreOfOneProof, IsResult};
-ghost use Rattle.lam_query.specs.inner.Verifying.{IsFirstNot, IsResultAt, IsResultIn, IsTextOf};
+ghost use Rattle.lam_query.specs.inner.Verifying.{IsContextResult, IsFirstNot, IsResultAt, IsResultIn, IsTextOf};
 
 use crate::answers::{Derivation, FirstFault, Step};
 use crate::misplaced_steps::{Placing, placing_of};
@@ -137,14 +137,9 @@ impl TypedText {
         ensures { IfOk result (λ fault. (commands : List CommandTree) → IsTextOf commands self.now
             → IsResultAt (tree_in (document_terms commands) place.0) (derivation_of derivation.now) self.now.dialect fault) }
     {
-        let binders = self.scopes.visible_at(alloc, place)?;
-        if !are_named(&self.scopes, &binders, &derivation.context) {
-            return Ok(Some(FirstFault::Names));
-        }
         let entries = entries_of(alloc, &derivation.context)?;
-        let origins = self.types.resolved.origins();
-        if let Some(number) = first_unfit(&self.types.typing, origins, &binders, &entries)? {
-            return Ok(Some(FirstFault::Entry(number)));
+        if let Some(fault) = self.context_fault(alloc, derivation, &entries, place)? {
+            return Ok(Some(fault));
         }
         let term = self.types.resolved.core_at(place);
         let steps = &derivation.steps;
@@ -153,6 +148,31 @@ impl TypedText {
         }
         match first_misranged(alloc, &self.scopes, place, steps)? {
             Some(number) => Ok(Some(FirstFault::Range(number))),
+            None => Ok(None),
+        }
+    }
+
+    /// The first error in the context of a derivation with these types in it, as one about the term with this id, or `None` if the
+    /// context fits that term.
+    fn context_fault(
+        &self,
+        alloc: Global,
+        derivation: &Derivation,
+        entries: &[Option<Ty>],
+        place: Place,
+    ) -> Result<Option<FirstFault>, AllocError>
+        requires inside { place.0 < length (places_of [] (statements_of self.now.types.resolved)) }
+        requires listed { map written_of entries.now ≡ map (λ e. e.type) (derivation_of derivation.now).context }
+        ensures { IfOk result (λ fault. (commands : List CommandTree) → IsTextOf commands self.now
+            → IsContextResult (tree_in (document_terms commands) place.0) (derivation_of derivation.now) self.now.dialect fault) }
+    {
+        let binders = self.scopes.visible_at(alloc, place)?;
+        if !are_named(&self.scopes, &binders, &derivation.context) {
+            return Ok(Some(FirstFault::Names));
+        }
+        let origins = self.types.resolved.origins();
+        match first_unfit(&self.types.typing, origins, &binders, entries)? {
+            Some(number) => Ok(Some(FirstFault::Entry(number))),
             None => Ok(None),
         }
     }

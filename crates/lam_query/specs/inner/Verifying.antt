@@ -7,7 +7,7 @@ use Rattle.lam_scope.specs.PlacedTerms.{PlacedTree, document_terms}
 use Rattle.lam_scope.specs.Views.{AreScopesOf}
 use Rattle.lam_query.specs.Derivations.{Derivation}
 use Rattle.lam_query.specs.FirstFaults.{IsFaultAt, IsFaultIn}
-use Rattle.lam_query.specs.Verified.{IsProofAt, IsProofOf}
+use Rattle.lam_query.specs.Verified.{HasContext, IsProofAt, IsProofOf}
 use Rattle.lam_query.specs.declared.answers.FirstFault.{FirstFault}
 use Rattle.lam_query.specs.declared.verify.TypedText.{TypedText}
 use Rattle.lam_query.specs.inner.Typings.{AreTypesOf}
@@ -22,6 +22,11 @@ pub record IsOfSomeTerm (commands : List CommandTree) (derivation : Derivation) 
   pub number : ℕ
   pub inside : number < length (document_terms commands)
   pub is_proof : IsProofAt commands number derivation d
+
+-- what is wrong with the context of a derivation as one about this term; `None` if it fits the term
+abbrev pub IsContextResult : PlacedTree → Derivation → Dialect → Option FirstFault → Type 0
+IsContextResult term x d None = HasContext term x d
+IsContextResult term x d (Some fault) = (HasContext term x d → ⊥) × IsFaultAt term x d fault
 
 -- what is wrong with a derivation as one about this term; `None` if it is a valid one
 abbrev pub IsResultAt : PlacedTree → Derivation → Dialect → Option FirstFault → Type 0
