@@ -27,7 +27,8 @@ use std::alloc::{AllocError, Global};
 
 /// Returns the completions at a byte offset, sorted by the bytes of their labels: after a dot, the labels whose projections have
 /// a type; on a variable, the names in scope (`textDocument/completion`, LSP 3.17). Nothing is listed after a dot if some type of
-/// the text is over the size limit, or if, with a label put there, one before the projection is.
+/// the text is over the size limit, or if, with a label put there, some written type is, or the least type of a term before the
+/// projection.
 pub fn complete(
     alloc: Global,
     text: &str,

@@ -15,8 +15,8 @@ use lam_syntax::Command;
 use lam_typing::{Typing, TypingFault, analyse_to};
 use std::alloc::{AllocError, Global};
 
-/// Returns the labels with which a projection has a type, in ascending order, each with its least type as text; nothing if a type
-/// before the projection is over the size limit.
+/// Returns the labels with which a projection has a type, in ascending order, each with its least type as text; nothing if some
+/// written type, or the least type of a term before the projection, is over the size limit.
 pub(crate) fn fields_of(
     alloc: Global,
     commands: &[Command],

@@ -1,4 +1,4 @@
-//! Laws of the answers, stated as contracts of functions that do nothing.
+//! Laws of the answers. Each is a theorem, which the toolchain needs as the contract of an empty function.
 ghost use Rattle.std.specs.Prelude.{◌≡◌, ◌↔◌, ℕ, Bool, true, List, [], Option, Some, Result, Ok, Err, All, Contains};
 ghost use Rattle.std.specs.Str.{IsUtf8};
 ghost use Rattle.lam_token.specs.declared.span.Span.{Span};
@@ -36,8 +36,8 @@ pub fn one_answer()
     ensures completions { (text : List ℕ) (offset : ℕ) (items others : List Item) (d : Dialect) → AreCompletions text offset items d → AreCompletions text offset others d → items ≡ others }
 {}
 
-/// Any label after a dot gives the same result: if the dot is a projection's with one label, it is with every other; and if with
-/// one label no type up to the projection is over the size limit, none is with any other.
+/// It does not matter which label is put after a dot: if with one label the dot is that of a projection, so it is with every other;
+/// and if with one label no type up to the projection is over the size limit, none is with any other.
 pub fn one_label_stands_for_all()
     ensures projected { (text : List ℕ) (tokens : List Lexeme) (offset : ℕ) (l m : Label) → AreTokensOf text tokens → IsProjected tokens offset l → IsProjected tokens offset m }
     ensures small { (text : List ℕ) (tokens : List Lexeme) (offset : ℕ) (l m : Label) (h : IsProjected tokens offset l) (k : IsProjected tokens offset m) (d : Dialect) → AreTokensOf text tokens

@@ -2,8 +2,8 @@
 //! derivation of it; the definition, the references and a rename of the name there; the completions there; and the first error in a
 //! derivation made elsewhere.
 //!
-//! Each answer is a function of the text, an offset and the dialect, except the derivation, which may be any proof of the least type
-//! in the context of least types. Offsets and spans are byte offsets into the UTF-8 text.
+//! Each answer is determined by the text, the dialect and the question, except the derivation, which may be any proof of the least
+//! type in the context of least types. Offsets and spans are byte offsets into the UTF-8 text.
 #![tactic(auto)]
 
 mod analyses;

@@ -35,8 +35,8 @@ use lam_typing::{Blame, Typing};
 use std::alloc::{AllocError, Global};
 use std::slice;
 
-/// Returns the diagnostics of a text in the order of `faults`, each with what its subterm expects and what was found, if it is
-/// about a subterm.
+/// Returns the diagnostics of a text in the order of `faults`, each with the mismatch at its subterm if there is one: an unbound
+/// name and a repeated label have none, nor has what is not about a subterm.
 pub fn explained_faults(
     alloc: Global,
     text: &str,
@@ -49,8 +49,8 @@ pub fn explained_faults(
 }
 
 impl Analysis {
-    /// Returns the diagnostics of the text, each with what its subterm expects and what was found, if it is about a subterm. The
-    /// commands with such diagnostics are parsed and typed again.
+    /// Returns the diagnostics of the text in the order of `faults`, each with the mismatch at its subterm if there is one. The
+    /// commands with type diagnostics are parsed and typed again.
     pub fn explained_faults(
         &self,
         alloc: Global,

@@ -1,7 +1,7 @@
 //! The first step of a derivation that has another range than the term that it is about.
 //!
 //! The steps are read from the last one down: each tells which terms its premises are about.
-ghost use Rattle.std.specs.Prelude.{◌≡◌, ◌↔◌, ◌∷◌, ◌++◌, List, [], IsTrue, IfOk, OnOk, MatchOption, drop, map};
+ghost use Rattle.std.specs.Prelude.{◌≡◌, ◌↔◌, ◌++◌, List, [], IsTrue, IfOk, OnOk, MatchOption, drop, map};
 ghost use Rattle.lam_rules.specs.Typing.{TypingTree};
 ghost use Rattle.lam_scope.specs.PlacedTerms.{document_terms, tree_in};
 ghost use Rattle.lam_scope.specs.TableViews.{place_number};

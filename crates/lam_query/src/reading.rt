@@ -1,4 +1,4 @@
-//! Reads a text into commands, and the diagnostics of what is no command.
+//! Reads a text into commands, and the diagnostics of what is not a command.
 ghost use Rattle.std.specs.Prelude.{true, false, ◌≡◌, ◌∷◌, ◌++◌, ◌+◌, ◌<◌, ◌^◌, ℕ, List, [], map, codes, length, IfOk, OnOk};
 ghost use Rattle.std.specs.Option.{option_map};
 ghost use Rattle.lam_token.specs.Lexeme.{Lexeme, start_of};
@@ -22,7 +22,7 @@ use std::mem;
 /// The result of reading a text.
 #[derive(Drop)]
 pub(crate) struct Parsed {
-    /// In text order. A piece that derives no command is skipped.
+    /// In text order. A piece that is not a command is skipped.
     pub(crate) commands: Vec<Command>,
     /// The diagnostics of tokens, then those of pieces.
     pub(crate) faults: Vec<Fault>,

@@ -27,6 +27,7 @@ pub enum RenameFault {
     WrongKind,
     /// With the new name, some name or type name would be bound elsewhere.
     ChangesBinding,
+    /// An allocation failed.
     Memory,
 }
 

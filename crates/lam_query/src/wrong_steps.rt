@@ -142,7 +142,7 @@ fn is_right<'a>(
     }
 }
 
-/// Puts this on the stack so many times.
+/// Puts this on the stack `count` times.
 fn push_each<'a>(
     pending: &mut Vec<Pending<'a>>,
     each: Pending<'a>,
