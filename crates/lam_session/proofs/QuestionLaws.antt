@@ -6,7 +6,7 @@ use Rattle.lam_session.specs.Asked.{Asked}
 use Rattle.lam_session.specs.Questions.{IsAnswerTo, MayVary}
 use Rattle.lam_session.specs.declared.questions.Question.{Question}
 use Rattle.lam_session.specs.declared.questions.Question.TheVariants.{Hover, Derivation, Completion, Definition, References, Rename}
-use Rattle.lam_session.specs.References.{is_declared}
+use Rattle.lam_session.specs.References.{includes_declaration}
 use Rattle.lam_session.specs.Renames.{new_name}
 use Rattle.lam_session.proofs.CompletionLaws as completion
 use Rattle.lam_session.proofs.DefinitionLaws as definition
@@ -49,10 +49,10 @@ laws Definition = record {
   no_method = λ a id. definition.no_method a.encoding a.uri a.text a.offset id;
 }
 laws References = record {
-  some = λ a id. references.some_reply a.encoding a.uri a.text a.offset (is_declared a.params) id;
-  alike = λ a id one other h k. inl (references.one_reply a.encoding a.uri a.text a.offset (is_declared a.params) id one other h k);
-  plain = λ a id. references.plain a.encoding a.uri a.text a.offset (is_declared a.params) id;
-  no_method = λ a id. references.no_method a.encoding a.uri a.text a.offset (is_declared a.params) id;
+  some = λ a id. references.some_reply a.encoding a.uri a.text a.offset (includes_declaration a.params) id;
+  alike = λ a id one other h k. inl (references.one_reply a.encoding a.uri a.text a.offset (includes_declaration a.params) id one other h k);
+  plain = λ a id. references.plain a.encoding a.uri a.text a.offset (includes_declaration a.params) id;
+  no_method = λ a id. references.no_method a.encoding a.uri a.text a.offset (includes_declaration a.params) id;
 }
 laws Rename = record {
   some = λ a id. rename.some_reply a.encoding a.uri a.text a.offset (new_name a.params) id;

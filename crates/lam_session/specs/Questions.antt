@@ -8,7 +8,7 @@ use Rattle.lam_session.specs.Definitions.{IsDefinitionReply}
 use Rattle.lam_session.specs.Documents.{OpenDocuments, open_text}
 use Rattle.lam_session.specs.Does.{Does}
 use Rattle.lam_session.specs.Hovers.{IsHoverReply}
-use Rattle.lam_session.specs.References.{is_declared, IsReferencesReply}
+use Rattle.lam_session.specs.References.{includes_declaration, IsReferencesReply}
 use Rattle.lam_session.specs.Refusals.{refused}
 use Rattle.lam_session.specs.Renames.{new_name, IsRenameReply}
 use Rattle.lam_session.specs.State.{State, open_in}
@@ -22,7 +22,7 @@ IsAnswerTo Hover a id reply = IsHoverReply a.encoding a.dialect a.text a.offset 
 IsAnswerTo Derivation a id reply = IsDerivationReply a.encoding a.dialect a.text a.offset id reply
 IsAnswerTo Completion a id reply = IsCompletionReply a.dialect a.text a.offset id reply
 IsAnswerTo Definition a id reply = IsDefinitionReply a.encoding a.uri a.text a.offset id reply
-IsAnswerTo References a id reply = IsReferencesReply a.encoding a.uri a.text a.offset (is_declared a.params) id reply
+IsAnswerTo References a id reply = IsReferencesReply a.encoding a.uri a.text a.offset (includes_declaration a.params) id reply
 IsAnswerTo Rename a id reply = IsRenameReply a.encoding a.uri a.text a.offset (new_name a.params) id reply
 
 -- The reply is one of several that answer the question, which holds only for derivations.

@@ -9,13 +9,13 @@ use Rattle.lam_text.specs.declared.units.Encoding.{Encoding}
 use Rattle.lam_query.specs.Definitions.{AreReferencesIn}
 use Rattle.lam_session.specs.Ranges.{location_value}
 
--- whether the params ask for the declaration, if they say so
-abbrev pub told_declared : Data → Option Bool
-told_declared params = option_and_then as_bool (option_and_then (get (codes "includeDeclaration")) (get (codes "context") params))
+-- whether the params ask to include the declaration, if they say so
+abbrev pub given_include_declaration : Data → Option Bool
+given_include_declaration params = option_and_then as_bool (option_and_then (get (codes "includeDeclaration")) (get (codes "context") params))
 
--- whether the declaration is requested; false unless the params say so
-abbrev pub is_declared : Data → Bool
-is_declared params = unwrap_or (told_declared params) false
+-- whether the reply is to include the declaration; false unless the params say so
+abbrev pub includes_declaration : Data → Bool
+includes_declaration params = unwrap_or (given_include_declaration params) false
 
 -- the references, in order; null if the name is unbound
 abbrev pub references_value : Encoding → List ℕ → (uri : List ℕ) → Option (List Span) → Data

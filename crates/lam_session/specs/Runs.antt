@@ -52,14 +52,14 @@ abbrev pub document_named : List ℕ → List OpenDocument → Option OpenDocume
 document_named uri [] = None
 document_named uri (d ∷ ds) = if bytes_eq uri d.uri then Some d else document_named uri ds
 
--- Two states that cannot be told apart by questions about this document: it has the same text and version in both, or is open in neither.
+-- Two states with the same lifecycle state, encoding and dialect, in which this document has the same text and version or is open in neither.
 pub record SameFor (uri : List ℕ) (s t : State) : Type 0 where
   pub life : s.life ≡ t.life
   pub encoding : s.encoding ≡ t.encoding
   pub dialect : s.dialect ≡ t.dialect
   pub document : document_named uri s.documents ≡ document_named uri t.documents
 
--- The exchanges that concern a document are a run by themselves, which leaves that document as the whole run does.
+-- Without the exchanges that do not concern a document, the rest is still a run, which leaves that document as the whole run does.
 pub record IsAlone (dialect : Dialect) (uri : List ℕ) (exchanges : List Exchange) (end : State) : Type 0 where
   pub alone : State
   pub run : AreExchanges (fresh dialect) (concerning uri exchanges) alone

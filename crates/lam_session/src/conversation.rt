@@ -27,8 +27,8 @@ use serde_json::Value;
 use std::alloc::{AllocError, Global};
 use std::marker::Model;
 
-/// The lifecycle state and the open documents. Each message takes the conversation by value, and returns the next one with the
-/// messages to send, or neither if allocation fails.
+/// The lifecycle state and the open documents. What handles a message takes the conversation by value, and returns the next one
+/// with the messages to send, or neither if allocation fails.
 #[derive(Drop)]
 pub struct Conversation {
     alloc: Global,
@@ -38,7 +38,7 @@ pub struct Conversation {
 
 /// The contents of a `didChange` notification for an open document.
 #[derive(Drop)]
-struct ToldChange {
+struct DocumentChange {
     uri: String,
     changes: Vec<Change>,
     version: Option<i64>,
@@ -135,14 +135,15 @@ impl Conversation {
         ensures { IfOk result (λ r. Requested self.life self (view id) method (view params.now) (map data_of r.1.items) r.0) }
     {
         match self.life {
-            Lifecycle::Fresh => self.await_initialize(id, method, params),
+            Lifecycle::Fresh => self.before_initialize(id, method, params),
             Lifecycle::Running => self.serve(id, method, params),
             Lifecycle::Down => self.refuse(id, Refusal::ShutDown),
             Lifecycle::Over(_) => Ok(self.ignore()),
         }
     }
 
-    fn await_initialize(
+    /// Handles a request before `initialize`: no other is served.
+    fn before_initialize(
         self,
         id: Value,
         method: RequestMethod,
@@ -215,13 +216,14 @@ impl Conversation {
         ensures { IfOk result (λ r. Noticed self.life self method (view params) (map data_of r.1.items) r.0) }
     {
         match self.life {
-            Lifecycle::Running => self.heed(method, params),
+            Lifecycle::Running => self.notice_while_running(method, params),
             Lifecycle::Over(_) => Ok(self.ignore()),
-            _ => Ok(self.pass(method)),
+            _ => Ok(self.notice_while_not_running(method)),
         }
     }
 
-    fn heed(
+    /// Handles a notification between `initialize` and `shutdown`.
+    fn notice_while_running(
         self,
         method: NoticeMethod,
         params: Value,
@@ -237,7 +239,8 @@ impl Conversation {
         }
     }
 
-    fn pass(self, method: NoticeMethod) -> (Conversation, Vec<Outgoing>)
+    /// Handles a notification before `initialize` or after `shutdown`: only `exit` has an effect.
+    fn notice_while_not_running(self, method: NoticeMethod) -> (Conversation, Vec<Outgoing>)
         ensures { Passes self method (map data_of result.1.items) result.0 }
     {
         match method {
@@ -264,14 +267,14 @@ impl Conversation {
         };
         let version = given_version(params);
         self.documents = self.documents.open(uri, text, version)?;
-        let sent = self.tell(uri, version)?;
+        let sent = self.diagnostics_notice(uri, version)?;
         Ok((self, sent))
     }
 
     fn change_document(self, params: Value) -> Result<(Conversation, Vec<Outgoing>), AllocError>
         ensures { IfOk result (λ r. Changes self (view params) (map data_of r.1.items) r.0) }
     {
-        let told = self.told_change(&params)?;
+        let told = self.read_change(&params)?;
         // If the params were kept, their blocks would occupy the memory that the old analysis frees for the new one.
         drop(params);
         match told {
@@ -281,7 +284,7 @@ impl Conversation {
     }
 
     /// Reads a `didChange` notification; `None` if it is to be ignored.
-    fn told_change(&self, params: &Value) -> Result<Option<ToldChange>, AllocError>
+    fn read_change(&self, params: &Value) -> Result<Option<DocumentChange>, AllocError>
         ensures { IfOk result (IsTold self.now (view params.now)) }
     {
         let Ok(uri) = read_uri(params) else {
@@ -295,7 +298,7 @@ impl Conversation {
             Err(ChangesFault::BadParams) => return Ok(None),
             Err(ChangesFault::Memory) => return Err(AllocError),
         };
-        Ok(Some(ToldChange {
+        Ok(Some(DocumentChange {
             uri: String::from_str(self.alloc, uri)?,
             changes,
             version: given_version(params),
@@ -313,7 +316,7 @@ impl Conversation {
         ensures { IfOk result (λ r. ChangesText self uri.now (open_text uri.now self.documents) changes.now version (map data_of r.1.items) r.0) }
     {
         self.documents = self.documents.change(uri, changes, version)?;
-        let sent = self.tell(uri, version)?;
+        let sent = self.diagnostics_notice(uri, version)?;
         Ok((self, sent))
     }
 
@@ -332,7 +335,11 @@ impl Conversation {
     }
 
     /// The notification with all diagnostics of an open document.
-    fn tell(&self, uri: &str, version: Option<i64>) -> Result<Vec<Outgoing>, AllocError>
+    fn diagnostics_notice(
+        &self,
+        uri: &str,
+        version: Option<i64>,
+    ) -> Result<Vec<Outgoing>, AllocError>
         requires { IsSome (open_text uri.now self.now.documents) }
         ensures { IfOk result (λ sent. (text : List ℕ) → open_text uri.now self.now.documents ≡ Some text
             → Tells self.now.encoding self.now.dialect (record { uri = uri.now; text = text; version = version }) (map data_of sent.items)) }
@@ -346,7 +353,7 @@ impl Conversation {
     }
 }
 
-// `exit` succeeds only after `shutdown` (LSP 3.17, exit).
+/// The exit status of the program: 0 only if `exit` comes after `shutdown` (LSP 3.17, exit).
 fn exit_status(life: Lifecycle) -> u8
     ensures { result ≡ exit_status life }
 {

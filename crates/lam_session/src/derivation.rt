@@ -12,7 +12,7 @@ use lam_text::Position;
 use serde_json::Value;
 use std::alloc::{AllocError, Global};
 
-/// Returns the reply to the request with this id: the derivation of the type of the innermost term around a position.
+/// Returns the reply to the request with this id: a derivation of the type of the innermost term around a position.
 pub fn derivation_reply(
     alloc: Global,
     id: Value,

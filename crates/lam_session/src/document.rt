@@ -48,7 +48,7 @@ impl Model for Document {
 }
 
 impl Document {
-    /// Creates a document with this text, and analyzes it.
+    /// Creates a document with this text, and analyses it.
     pub fn new(
         alloc: Global,
         text: &str,
@@ -196,7 +196,7 @@ impl Document {
     }
 }
 
-/// Analyzes a text, starting from the analysis of the text that it was changed from, if there is one.
+/// Analyses a text, starting from the analysis of the text that it was changed from, if there is one.
 fn analysed(
     alloc: Global,
     known: Option<Analysis>,

@@ -10,7 +10,7 @@ use lam_text::{Change, Encoding};
 use std::alloc::{AllocError, Global};
 use std::marker::Model;
 
-/// The open documents by URI, in the order of opening, with the encoding of their columns and the dialect. Each is analyzed.
+/// The open documents by URI, in the order of opening, with the encoding of their columns and the dialect. Each is analysed.
 #[derive(Drop)]
 pub struct Documents {
     alloc: Global,

@@ -1,6 +1,4 @@
-//! Properties of all runs of a session.
-//!
-//! Each law is the contract of a function that does nothing.
+//! Laws of all runs of a session. Each is a theorem, which the toolchain needs as the contract of an empty function.
 ghost use Rattle.std.specs.Prelude.{◌≡◌, ◌≢◌, ℕ, List, [], map, reverse, false, All, Some, Ok};
 ghost use Rattle.std.specs.Str.{IsUtf8};
 ghost use Rattle.serde_json.specs.Data.{Data};
@@ -20,10 +18,11 @@ ghost use Rattle.lam_session.specs.Runs.{Exchange, messages_of, AreExchanges, co
 ghost use Rattle.lam_session.specs.State.{State, fresh};
 ghost use Rattle.lam_session.specs.Step.{Steps};
 
-/// Other messages do not affect the answers about a document. The lifecycle messages and those that name the document are by
-/// themselves a run in which the same values are sent, and which leaves the document with the same text and version; and no other
-/// message publishes anything about it. So two sessions in which these messages are the same answer them alike, whatever other
-/// messages they receive, and leave the document with the same text and version.
+/// Other messages do not affect the answers about a document. If all messages are left out of a run except the lifecycle messages
+/// and those that name the document, the answers to these stay the same, and the document ends with the same text and version; and
+/// no message that is left out publishes anything about it. So two sessions that receive the same lifecycle messages and the same
+/// messages about the document answer these alike, except for which derivations are given, and leave it with the same text and
+/// version.
 pub fn isolation()
     ensures alone { (dialect : Dialect) (uri : List ℕ) (exchanges : List Exchange) (end : State)
         → AreExchanges (fresh dialect) exchanges end → IsAlone dialect uri exchanges end }

@@ -39,7 +39,7 @@ pub(crate) fn values_of<S: Shape>(
     Ok(values)
 }
 
-/// Appends the elements as compact JSON, with a comma between two, and the closing bracket.
+/// Appends the elements as compact JSON, with commas between them, and then the closing bracket.
 pub(crate) fn write_items<S: Shape>(
     alloc: Global,
     text: &mut String,

@@ -4,6 +4,7 @@ ghost use Rattle.lam_session.specs.Methods.{method_named, request_method, notice
 
 use crate::questions::Question;
 
+/// What a request asks for, by its method.
 #[derive(Clone, Copy)]
 pub enum RequestMethod {
     Initialize,
@@ -13,6 +14,7 @@ pub enum RequestMethod {
     Unknown,
 }
 
+/// What a notification is about, by its method.
 #[derive(Clone, Copy)]
 pub enum NoticeMethod {
     Exit,

@@ -21,13 +21,13 @@ use std::alloc::{AllocError, Global};
 /// written.
 #[derive(Drop)]
 pub enum Outgoing {
-    /// A reply.
+    /// A reply that is a value already.
     Value(Value),
     /// The diagnostics of a document.
     Diagnostics(Published),
-    /// The uses of a name.
+    /// The reply to a request for references, if the name is bound.
     References(Uses),
-    /// The edits that rename it.
+    /// The reply to a rename that is not refused.
     Rename(Edits),
 }
 
@@ -39,7 +39,8 @@ pub struct Published {
     pub(crate) diagnostics: Vec<Diagnostic>,
 }
 
-/// The reply to the request with this id: the uses of a name in the document with this URI.
+/// The reply to the request with this id: in the document with this URI the uses of a name, along with its declaration if that was
+/// requested.
 #[derive(Drop)]
 pub struct Uses {
     pub(crate) id: Value,
@@ -190,7 +191,7 @@ fn before_result(alloc: Global, id: &Value) -> Result<String, AllocError>
     Ok(text)
 }
 
-/// Appends the member for the version, if there is one. The object is not closed: its brace is the 125.
+/// Appends the member for the version, if there is one. The caller closes the object: the 125 is its brace.
 fn write_version(alloc: Global, text: &mut String, version: Option<i64>) -> Result<(), AllocError>
     ensures { OnOk result (string_bytes text.new ++ 125 ∷ [] ≡ string_bytes text.old ++ members_text true (version_member version)) }
 {

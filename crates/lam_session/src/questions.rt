@@ -23,7 +23,7 @@ use std::alloc::{AllocError, Global};
 pub enum Question {
     /// The type of the term.
     Hover,
-    /// The derivation of that type.
+    /// A derivation of that type.
     Derivation,
     /// The completions there.
     Completion,

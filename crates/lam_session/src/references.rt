@@ -5,7 +5,7 @@ ghost use Rattle.lam_rpc.specs.Reply.{result_reply};
 ghost use Rattle.lam_text.specs.Positions.{offset_of};
 ghost use Rattle.lam_query.specs.Within.{IsSpanOfText};
 ghost use Rattle.lam_session.specs.Outgoing.{data_of};
-ghost use Rattle.lam_session.specs.References.{told_declared, is_declared, references_value, IsReferencesReply};
+ghost use Rattle.lam_session.specs.References.{given_include_declaration, includes_declaration, references_value, IsReferencesReply};
 
 use crate::document::Document;
 use crate::outgoing::{Outgoing, Uses, replied};
@@ -27,21 +27,21 @@ pub fn references_reply(
 ) -> Result<Outgoing, AllocError>
     requires { document.now.analysed ≡ true }
     ensures { IfOk result (λ reply. IsReferencesReply document.now.encoding uri.now document.now.text
-        (offset_of document.now.encoding document.now.text position) (is_declared (view params.now)) (view id) (data_of reply)) }
+        (offset_of document.now.encoding document.now.text position) (includes_declaration (view params.now)) (view id) (data_of reply)) }
 {
-    let found = document.references(alloc, position, is_declared(params))?;
+    let found = document.references(alloc, position, includes_declaration(params))?;
     found_reply(alloc, id, document.doc(), uri, &found)
 }
 
-/// Whether the declaration is requested (`context.includeDeclaration`): false unless the params say so.
-fn is_declared(params: &Value) -> bool
-    ensures { result ≡ is_declared (view params.now) }
+/// Whether the reply is to include the declaration (`context.includeDeclaration`): false unless the params say so.
+fn includes_declaration(params: &Value) -> bool
+    ensures { result ≡ includes_declaration (view params.now) }
 {
-    told_declared(params).unwrap_or(false)
+    given_include_declaration(params).unwrap_or(false)
 }
 
-fn told_declared(params: &Value) -> Option<bool>
-    ensures { result ≡ told_declared (view params.now) }
+fn given_include_declaration(params: &Value) -> Option<bool>
+    ensures { result ≡ given_include_declaration (view params.now) }
 {
     params.get("context")?.get("includeDeclaration")?.as_bool()
 }

@@ -9,6 +9,7 @@ use lam_rpc::error_reply;
 use serde_json::Value;
 use std::alloc::{AllocError, Global};
 
+/// Why a message is answered with an error.
 #[derive(Clone, Copy)]
 pub enum Refusal {
     UnreadableMessage,

@@ -28,9 +28,9 @@ pub struct Session {
 /// Whether a session is still able to answer.
 #[derive(Drop)]
 enum Condition {
-    /// Every message is answered.
+    /// It is.
     Going(Conversation),
-    /// An allocation failed, and nothing is answered any more. Only the lifecycle state is kept.
+    /// It is not, since an allocation failed. Only the lifecycle state is kept.
     GaveUp(Lifecycle),
 }
 
@@ -69,7 +69,7 @@ impl Session {
     /// Returns `AllocError` if allocation failed in this step or an earlier one; every later step then fails too. After the
     /// session has ended, a step sends nothing and changes nothing.
     ///
-    /// The answer does not depend on memory: each message has exactly one, except for which derivation of a shown type is given.
+    /// In each state a message has exactly one answer, except for which derivation of a shown type is given.
     pub fn step(&mut self, incoming: Incoming) -> Result<Vec<Value>, AllocError>
         ensures answers { IfOk result (λ values. Answers self.old (message_of incoming) (map view values.items) self.new) }
         ensures gives_up { OnErr result (GivesUp self.old self.new) }

@@ -9,6 +9,7 @@ use lam_rules::Dialect;
 pub enum Lifecycle {
     /// Before `initialize`.
     Fresh,
+    /// Between `initialize` and `shutdown`.
     Running,
     /// After `shutdown`.
     Down,

@@ -5,8 +5,8 @@ use Rattle.lam_session.proofs.ChangeSteps.{some_text, changed}
 use Rattle.lam_session.proofs.EntryLemmas.{found_set}
 use Rattle.lam_session.proofs.conversation.Conversation.apply.Goals as goal
 
-pub tell-requires : goal.tell-requires
-tell-requires c =
+pub diagnostics_notice-requires : goal.diagnostics_notice-requires
+diagnostics_notice-requires c =
     let there = some_text _ (rw (← c.self.view_is) at c.requires) in
     ap is_some (ap (λ held. open_text c.args.uri.now held.documents) (c.in_ok-self-inside.ensures there.0 there.1)
     ∙ found_set (record { uri = c.args.uri.now; text = text_after c.self.inside.documents.encoding there.0 c.args.changes.now; version = c.args.version }) c.self.inside.documents.documents)

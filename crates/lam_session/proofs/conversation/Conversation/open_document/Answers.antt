@@ -5,8 +5,8 @@ use Rattle.lam_session.proofs.ChangeSteps.{opens_found}
 use Rattle.lam_session.proofs.EntryLemmas.{found_set}
 use Rattle.lam_session.proofs.conversation.Conversation.open_document.Goals as goal
 
-pub tell-requires : goal.tell-requires
-tell-requires c =
+pub diagnostics_notice-requires : goal.diagnostics_notice-requires
+diagnostics_notice-requires c =
     ap is_some (ap (λ held. open_text c.in-Ok.uri.now held.documents) c.in_ok-self-inside.ensures
     ∙ found_set (record { uri = c.in-Ok.uri.now; text = c.in-Some.text.now; version = c.given_version-version.result }) c.self.inside.documents.documents)
 
