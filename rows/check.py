@@ -317,7 +317,7 @@ def sent(change=None, names=None, steps=None):
 
 # Derivations that cannot be read, each with what is told of it. What is wrong is never first in its list.
 UNREAD = [
-    ("an entry that is no object", sent(names=[NAMES[0], 7]), "entry 1 is not an object with a name and a type"),
+    ("an entry that is no object", sent(names=[NAMES[0], 7]), "entry 1 is not an object with exactly the members `name`, a string, and `type`"),
     ("an entry of which the type is cut", sent(names=[NAMES[0], {"name": "next", "type": "{x:Nat"}]), "entry 1 has an unreadable type, or one of over 4,096 levels"),
     ("a step with one member more", sent((3, {"more": 0})), "step 3 is not an object with exactly the members `from`, `range`, `rule` and `type`, or `from`, `lower`, `rule` and `upper`"),
     ("no such rule of typing", sent((4, {"rule": "S-Refl"})), "step 4 does not name a rule of its kind"),
@@ -328,7 +328,7 @@ UNREAD = [
     ("a range behind the text", sent((4, {"range": place(9, 0, 4)})), "step 4 does not have a range of characters of the text"),
     ("a premise that is no number", sent((3, {"from": [1, "2"]})), "`from` of step 3 is not a list of step numbers"),
     ("premises that are no list", sent((2, {"from": 0})), "`from` of step 2 is not a list of step numbers"),
-    ("a wrong entry after a wrong step", sent((2, {"from": 0}), names=[NAMES[0], 7]), "entry 1 is not an object with a name and a type"),
+    ("a wrong entry after a wrong step", sent((2, {"from": 0}), names=[NAMES[0], 7]), "entry 1 is not an object with exactly the members `name`, a string, and `type`"),
     ("a step of which nothing is right", sent((4, {"from": 0, "range": 7, "rule": "T-Foo", "type": 7})), "step 4 does not name a rule of its kind"),
     ("wrong premises and a wrong range", sent((4, {"from": 0, "range": 7, "type": 7})), "`from` of step 4 is not a list of step numbers"),
     ("a wrong range and a wrong type", sent((4, {"range": 7, "type": 7})), "step 4 does not have a range of characters of the text"),
@@ -387,7 +387,7 @@ CASES = [
     Case("a NUL", ["a"], {"a": "a = 0;\0"}, "a:1:7: error[B1]: character not allowed\na = 0;\ufffd\n      ^\n", 1),
     Case("types", ["--types", "a"], {"a": CALL + "P = {b:Bool, a:Nat}; n : P;"}, "point : {name:Bool, x:Nat}\nnext : {x:Nat}->Nat\nNat\nP :: {a:Nat, b:Bool}\nn : {a:Nat, b:Bool}\n", 0),
     Case("faults before types", ["--types", "a"], {"a": "succ true; a = 0"}, "a:1:1: error[E6]: operand is not Nat\nsucc true; a = 0\n^^^^^^^^^ expected Nat, found Bool\na : Nat\n", 1),
-    Case("a derivation", ["--why", "3:1", "a"], {"a": CALL.replace("next point;", " next point;")}, "", 1, refused("a", "no term with a type is there")),
+    Case("a derivation", ["--why", "3:1", "a"], {"a": CALL.replace("next point;", " next point;")}, "", 1, refused("a", "no type is shown there")),
     Case("a derivation as a tree", ["--why", "3:5", "a"], {"a": CALL}, TREE, 0),
     Case("a letrec is drawn as what it is short for", ["--why", "1:6", "a"], {"a": f"x = {RECURSIVE};"}, RECURSION, 0),
     Case("of a smaller type than the written one", ["--why", "1:1", "a"], {"a": "letrec f:Nat->Top = lambda n:Nat. n in f"}, BELOW_WRITTEN, 0),
@@ -398,7 +398,8 @@ CASES = [
     Case("a derivation in LaTeX", ["--why", "1:1", "--latex", "a"], {"a": "{a=0}"}, LATEX, 0),
     Case("a line that there is not", ["--why", "9:1", "a"], {"a": "0"}, "", 1, refused("a", "the text has no such line")),
     Case("a line that there is not, as JSON", ["--json", "--why", "2:9", "a"], {"a": "0"}, "", 1, refused("a", "the text has no such line")),
-    Case("the line after the last line end", ["--why", "2:1", "a"], {"a": "0;\n"}, "", 1, refused("a", "no term with a type is there")),
+    Case("the line after the last line end", ["--why", "2:1", "a"], {"a": "0;\n"}, "", 1, refused("a", "no type is shown there")),
+    Case("no derivation beside a type that is too large", ["--why", "13:6", "a"], {"a": LARGE}, "", 1, refused("a", "no type is shown there")),
     Case("a place past the end of the last line", ["--why", "1:3", "a"], {"a": "0"}, "", 1, refused("a", "the line has no such column")),
     Case("a place past the end of a line", ["--why", "1:3", "a"], {"a": "0\n0"}, "", 1, refused("a", "the line has no such column")),
     Case("a place past the end of a line, as JSON", ["--json", "--why", "1:3", "a"], {"a": "0\n0"}, "", 1, refused("a", "the line has no such column")),
@@ -515,9 +516,10 @@ CASES = [
     ),
     Case("a text on standard input", ["--verify", "--of", "-", "d"], {"d": sent()}, "", 2, "error: --of takes the name of a file\n", given=CALL.encode()),
     Case("verifying and types", ["--verify", "--types", "a"], {"a": "0"}, "", 2, None),
+    Case("a derivation and types", ["--why", "1:1", "--types", "a"], {"a": "0"}, "", 2, None),
     Case("a text of nothing", ["--of", "a", "a"], {"a": "0"}, "", 2, None),
     Case("no such option", ["--nope"], {}, "", 2, None),
-    Case("no place", ["--why", "1", "a"], {"a": "0"}, "", 2, "error: --why takes a line and a column, both from 1, as 3:14\n"),
+    Case("no place", ["--why", "1", "a"], {"a": "0"}, "", 2, "error: --why takes a line and a column, both from 1, as in 3:14\n"),
     Case("control characters in a wrong option", ["--nope\x1b[2J"], {}, "", 2, NOPE),
     Case("LaTeX and HTML", ["--latex", "--html", "--why", "1:1", "a"], {"a": "0"}, "", 2, None),
     Case("JSON and HTML", ["--json", "--html", "--why", "1:1", "a"], {"a": "0"}, "", 2, None),
@@ -708,7 +710,7 @@ def derivations(program):
         for dialect in dialects:
             name, words = f"the derivation at {at} in {text[:60]}", ["--dialect", dialect, "--why", f"1:{at + 1}", "a"]
             if claim is None:
-                yield Case(name, words, {"a": text}, "", 1, refused("a", "no term with a type is there"))
+                yield Case(name, words, {"a": text}, "", 1, refused("a", "no type is shown there"))
                 continue
             with tempfile.TemporaryDirectory() as room:
                 with open(f"{room}/a", "w", encoding="utf-8") as it:

@@ -10,14 +10,14 @@ use Rattle.lam_check.specs.declared.absences.Absence.TheVariants as absences
 abbrev pub HasLine : List ℕ → ℕ → Type 0
 HasLine text line = HasPlace text (record { line = line; character = 0 })
 
--- The text has no such line; it has the line, but no such column; or it has the position, so that what is missing is a term with a type.
+-- The text has no such line; it has the line, but no such column; or it has the position, but no type is shown there.
 abbrev pub IsAbsence : List ℕ → Position → Absence → Type 0
 IsAbsence text place absences.Line = HasLine text place.line → ⊥
 IsAbsence text place absences.Column = HasLine text place.line × (HasPlace text place → ⊥)
-IsAbsence text place absences.Term = HasPlace text place
+IsAbsence text place absences.Type = HasPlace text place
 
 -- the error message
 unfoldable pub absence_text : Absence → Text
 absence_text absences.Line = codes "the text has no such line"
 absence_text absences.Column = codes "the line has no such column"
-absence_text absences.Term = codes "no term with a type is there"
+absence_text absences.Type = codes "no type is shown there"

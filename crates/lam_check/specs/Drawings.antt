@@ -196,7 +196,7 @@ pub record Draws (form : Form) (text : List ℕ) (derived : Derivation) (drawing
 abbrev pub HasPlace : List ℕ → Position → Type 0
 HasPlace text place = place ≡ position_of Utf32 text (offset_of Utf32 text place)
 
--- The derivation of the innermost term around a position of the text; `None` where no type is shown, or the text has no such position.
+-- A derivation of the type of the innermost term around a position of the text; `None` where no type is shown, or the text has no such position.
 abbrev pub IsDerivedAt : List ℕ → Position → Option Derivation → Dialect → Type 0
 IsDerivedAt text place (Some derived) d = HasPlace text place × IsDerivedIn text (offset_of Utf32 text place) (Some derived) d
 IsDerivedAt text place None d = IsDerivedIn text (offset_of Utf32 text place) None d ⊎ (HasPlace text place → ⊥)

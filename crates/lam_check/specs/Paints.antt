@@ -4,7 +4,7 @@ use Rattle.lam_rules.specs.Texts.{Text}
 use Rattle.lam_check.specs.declared.paint.Paint.{Paint}
 use Rattle.lam_check.specs.declared.paint.Paint.TheVariants.{Plain, Colours}
 
--- the sequence that starts highlighted text: bold red, if colors are on
+-- the sequence that starts highlighted text: bold red, if colours are on
 abbrev pub brush : Paint → Text
 brush Plain = []
 brush Colours = 27 ∷ codes "[1;31m"

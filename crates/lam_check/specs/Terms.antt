@@ -57,7 +57,7 @@ uncommented depth before (c ∷ cs) = kept depth before c ++ uncommented (next_d
 abbrev pub header : List ℕ → (whole first : Span) → Text
 header text whole first = uncommented 0 32 (chars (slice_range text whole.start first.start))
 
--- the `x:T` of a `letrec`, from the text behind its first letter; `None` for a `let`
+-- the `x:T` of a `letrec`, from the text after its first letter; `None` for a `let`
 abbrev pub binder_behind : Text → Option Text
 binder_behind rest = if bytes_eq (before_first (λ b. b == 99) rest) (codes "etre") then Some (trim (before_first (λ b. b == 61) (after_first (λ b. b == 99) rest))) else None
 

@@ -1,4 +1,4 @@
--- Why a value is not read as a derivation of a text: it is no object of two lists, or the first entry of its context or else the first step that is not read is wrong in some way.
+-- Why a value cannot be read as a derivation of a text: it is not an object with two lists; or an entry of its context, or else a step, cannot be read, and the reason is that of the first such.
 use Rattle.std.specs.Prelude.{◌≡◌, ◌≢◌, ◌⊎◌, ℕ, List, ◌∷◌, ◌++◌, length, codes, All, IfSome}
 use Rattle.serde_json.specs.Data.{Data, null, string, array, object, member, no_members}
 use Rattle.serde_json.specs.View.{items_of}
@@ -49,23 +49,23 @@ IsReadableStep encoding text value = (step : Step) × IsReadableConclusion text 
 
 -- ---- members that are wrong
 
--- the text of no readable type
+-- not the text of a readable type
 abbrev pub IsNoReadableType : Data → Type 0
 IsNoReadableType value = (t : Typ) → IsReadableType t → value ≢ string (plain_text t)
 
--- no list of natural numbers
+-- not a list of natural numbers
 abbrev pub AreNoPremises : Data → Type 0
 AreNoPremises value = (numbers : List ℕ) → value ≢ premises_value numbers
 
--- the range of no readable span
+-- not the range of a readable span
 abbrev pub IsNoReadableRange : Encoding → List ℕ → Data → Type 0
 IsNoReadableRange encoding text value = (span : Span) → IsReadableSpan text span → value ≢ range_value encoding text span
 
--- the name of no typing rule
+-- not the name of a typing rule
 abbrev pub IsNoTypeRule : Data → Type 0
 IsNoTypeRule value = (rule : TypeRule) → value ≢ string (name_of_type_rule rule)
 
--- the name of no subtyping rule
+-- not the name of a subtyping rule
 abbrev pub IsNoSubRule : Data → Type 0
 IsNoSubRule value = (rule : SubRule) → value ≢ string (name_of_sub_rule rule)
 

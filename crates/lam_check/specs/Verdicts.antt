@@ -80,7 +80,7 @@ message (faults.Range n) = codes "step " ++ decimal n ++ codes " does not have t
 -- why a value is not read as a derivation
 unfoldable pub unread_text : Unread → Text
 unread_text unread.Derivation = codes "it is not an object with exactly the members `context` and `steps`, both lists"
-unread_text (unread.Entry n) = codes "entry " ++ decimal n ++ codes " is not an object with a name and a type"
+unread_text (unread.Entry n) = codes "entry " ++ decimal n ++ codes " is not an object with exactly the members `name`, a string, and `type`"
 unread_text (unread.EntryType n) = codes "entry " ++ decimal n ++ codes " has an unreadable type, or one of over 4,096 levels"
 unread_text (unread.Step n) = codes "step " ++ decimal n ++ codes " is not an object with exactly the members `from`, `range`, `rule` and `type`, or `from`, `lower`, `rule` and `upper`"
 unread_text (unread.Rule n) = codes "step " ++ decimal n ++ codes " does not name a rule of its kind"

@@ -15,8 +15,8 @@ pub enum Absence {
     Line,
     /// The line has no such column.
     Column,
-    /// No term with a type is there.
-    Term,
+    /// The text has the position, but no type is shown there.
+    Type,
 }
 
 impl Absence {
@@ -28,7 +28,7 @@ impl Absence {
         match self {
             Absence::Line => "the text has no such line",
             Absence::Column => "the line has no such column",
-            Absence::Term => "no term with a type is there",
+            Absence::Type => "no type is shown there",
         }
     }
 }
@@ -48,7 +48,7 @@ pub fn absence_at(alloc: Global, text: &str, place: Position) -> Result<Absence,
     if !has_place(&doc, place) {
         return Ok(Absence::Column);
     }
-    Ok(Absence::Term)
+    Ok(Absence::Type)
 }
 
 /// Whether a text has a position.

@@ -5,7 +5,6 @@ use clap::{Arg, ArgAction, ArgMatches, Command, Error};
 use lam_rules::Dialect;
 use lam_text::Position;
 use std::alloc::{AllocError, Global};
-use thiserror::Error as FaultError;
 
 const NAME: &str = "lam_check";
 
@@ -31,17 +30,17 @@ const STATUSES: &str =
 #[derive(Clone, Copy, Debug)]
 pub struct Asked<'a> {
     pub dialect: Dialect,
-    /// What to show about each file.
     pub shown: Shown,
     /// The file that the derivations are about, if given with `--of`.
     pub source: Option<&'a str>,
 }
 
+/// What to print about each file.
 #[derive(Clone, Copy, Debug)]
 pub enum Shown {
     Faults,
     FaultsAndTypes,
-    /// The derivation of the term at this position, in this form.
+    /// A derivation of the type of the term at this position, in this form.
     Derivation(Position, Form),
     FaultsJson,
     DerivationJson(Position),
@@ -50,15 +49,13 @@ pub enum Shown {
 }
 
 /// Why the arguments request no check.
-#[derive(Debug, Drop, FaultError)]
+#[derive(Debug, Drop)]
 pub enum ArgsFault {
     /// Help was requested: its text, for standard output.
-    #[error("{0}")]
     Help(String),
     /// A usage error: its message, for standard error.
-    #[error("{0}")]
     Usage(String),
-    #[error("F7 Memory")]
+    /// An allocation failed.
     Memory,
 }
 
@@ -117,7 +114,7 @@ fn what_is_shown(matches: &ArgMatches<'_>) -> Result<Shown, &'static str> {
         return Ok(Shown::Faults);
     };
     let Some(place) = place_of(word) else {
-        return Err("error: --why takes a line and a column, both from 1, as 3:14\n");
+        return Err("error: --why takes a line and a column, both from 1, as in 3:14\n");
     };
     if matches.get_flag("json") {
         return Ok(Shown::DerivationJson(place));
@@ -176,7 +173,7 @@ fn command<'a>(alloc: Global) -> Result<Command<'a>, AllocError> {
 fn push_options<'a>(alloc: Global, options: &mut Vec<Arg<'a>>) -> Result<(), AllocError> {
     options.push(dialect(alloc))?;
     options.push(types(alloc))?;
-    options.push(why(alloc))?;
+    options.push(why(alloc)?)?;
     options.push(latex(alloc)?)?;
     options.push(html(alloc)?)?;
     options.push(json(alloc)?)?;
@@ -202,11 +199,12 @@ fn types<'a>(alloc: Global) -> Arg<'a> {
         .help("Shows the least type of each command")
 }
 
-fn why<'a>(alloc: Global) -> Arg<'a> {
+fn why<'a>(alloc: Global) -> Result<Arg<'a>, AllocError> {
     Arg::new(alloc, "why")
         .long("why")
         .value_name("LINE:COLUMN")
         .help("Draws a derivation of the type of the innermost term there, as a tree")
+        .conflicts_with("types")
 }
 
 fn latex<'a>(alloc: Global) -> Result<Arg<'a>, AllocError> {
@@ -248,7 +246,7 @@ fn verify<'a>(alloc: Global) -> Result<Arg<'a>, AllocError> {
 
 fn of<'a>(alloc: Global) -> Result<Arg<'a>, AllocError> {
     let of = Arg::new(alloc, "of").long("of").value_name("SOURCE").help(
-        "The text that the derivations are about, if they name none or another",
+        "The file with the text that the derivations are about, in place of the one that they name",
     );
     of.requires_arg("verify")
 }

@@ -18,8 +18,8 @@ use lam_rules::{Dialect, plain_text_of};
 use lam_text::{Doc, Encoding, Position};
 use std::alloc::{AllocError, Global};
 
-/// Draws the derivation of the innermost term around a position, each step once; `None` where no type is shown. Columns count
-/// characters.
+/// Draws a derivation of the type of the innermost term around a position, each step once; `None` where no type is shown, or the
+/// text has no such position. Columns count characters.
 pub fn drawing(
     alloc: Global,
     text: &str,
@@ -45,8 +45,8 @@ pub fn drawing(
     Ok(Some(out))
 }
 
-/// Returns the derivation of the innermost term around a position; `None` where no type is shown, or the text has no such
-/// position. Columns count characters.
+/// Returns a derivation of the type of the innermost term around a position; `None` where no type is shown, or the text has no
+/// such position. Columns count characters.
 pub fn derivation_at(
     alloc: Global,
     text: &str,

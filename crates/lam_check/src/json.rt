@@ -48,7 +48,8 @@ fn faults_value(alloc: Global, name: &str, doc: &Doc, faults: &[Fault]) -> Resul
         .finish()
 }
 
-/// Returns the derivation of the innermost term around a position as a line of JSON; `None` where no type is shown.
+/// Returns a derivation of the type of the innermost term around a position as a line of JSON; `None` where no type is shown, or
+/// the text has no such position. The column of the position counts characters.
 pub fn why_json(
     alloc: Global,
     name: &str,

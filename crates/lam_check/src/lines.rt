@@ -6,7 +6,7 @@ ghost use Rattle.lam_check.specs.Lines.{line_of, shown, is_in_ranges, columns, c
 use lam_text::{Doc, Encoding, Position};
 use std::alloc::{AllocError, Global};
 
-/// The characters of two columns, in ranges from the first to the last.
+/// The characters that a terminal shows in two columns, as inclusive ranges.
 const WIDE: [(char, char); 14] = [
     ('\u{1100}', '\u{115f}'),
     ('\u{2e80}', '\u{303e}'),
@@ -24,7 +24,7 @@ const WIDE: [(char, char); 14] = [
     ('\u{20000}', '\u{3fffd}'),
 ];
 
-/// The characters of no column.
+/// The characters that it shows in no column, likewise.
 const ZERO_WIDTH: [(char, char); 7] = [
     ('\u{300}', '\u{36f}'),
     ('\u{1ab0}', '\u{1aff}'),
@@ -132,7 +132,7 @@ pub fn push_blanks(out: &mut String, line: &str, count: u64) -> Result<(), Alloc
     Ok(())
 }
 
-/// Returns the columns of the characters of a line from number `start` to before number `end`.
+/// Returns the number of columns that the characters of a line take, from index `start` up to but not including `end`.
 pub fn columns_between(line: &str, start: u64, end: u64) -> u64
     ensures { result ≡ columns_between start end line.now }
 {

@@ -56,33 +56,33 @@ const MEMORY: u8 = 5;
 const STANDARD_INPUT: &str = "<stdin>";
 
 /// The number of files between two progress messages.
-const COUNTED: usize = 100;
+const FILES_PER_MESSAGE: usize = 100;
 
 /// How output is presented.
 #[derive(Clone, Copy)]
 struct Looks {
     paint: Paint,
     /// Whether progress is reported.
-    counts: bool,
+    reports_progress: bool,
 }
 
 fn main(rt: HostRuntime) -> ExitCode {
-    let words: Vec<String> = match words(&rt) {
+    let words: Vec<String> = match arguments(&rt) {
         Ok(words) => words,
         Err(error) => return ExitCode::from(refuse(&rt, &error)),
     };
     let looks = Looks {
         paint: paint_for(&rt, rt.stdout().is_terminal()),
-        counts: rt.stderr().is_terminal(),
+        reports_progress: rt.stderr().is_terminal(),
     };
     ExitCode::from(start(&rt, words.as_slice(), looks))
 }
 
-fn words<R: AllocGlobal + Env>(rt: &R) -> io::Result<Vec<String>> {
+fn arguments<R: AllocGlobal + Env>(rt: &R) -> io::Result<Vec<String>> {
     Ok(env::args(rt)?.collect(rt.alloc())?)
 }
 
-/// Returns whether to use colors: only on a terminal, and not if `NO_COLOR` is set and not empty.
+/// Returns whether to use colours: only on a terminal, and not if `NO_COLOR` is set and not empty.
 fn paint_for<R: AllocGlobal + Env>(rt: &R, terminal: bool) -> Paint {
     if !terminal {
         return Paint::Plain;
@@ -113,24 +113,24 @@ fn start<R: AllocGlobal + Files + Input + Print + Eprint>(
         .map(String::as_str)
         .collect(rt.alloc());
     let Ok(slices) = slices else {
-        return want_of_memory(rt);
+        return report_out_of_memory(rt);
     };
     match read_args(rt.alloc(), slices.as_slice()) {
         Ok((asked, names)) => check_all(rt, asked, names.as_slice(), looks),
         Err(ArgsFault::Help(text)) => tell(rt, text.as_str()),
-        Err(ArgsFault::Usage(text)) => refuse_words(rt, text.as_str()),
-        Err(ArgsFault::Memory) => want_of_memory(rt),
+        Err(ArgsFault::Usage(text)) => report_usage_error(rt, text.as_str()),
+        Err(ArgsFault::Memory) => report_out_of_memory(rt),
     }
 }
 
 /// Reports a usage error with its control characters replaced, and returns the exit status.
-fn refuse_words<R: AllocGlobal + Eprint>(rt: &R, text: &str) -> u8 {
+fn report_usage_error<R: AllocGlobal + Eprint>(rt: &R, text: &str) -> u8 {
     for line in text.lines() {
         match shown_line(rt.alloc(), line) {
             Ok(shown) => {
                 let _ = eprintln!(rt; "{shown}");
             }
-            Err(_) => return want_of_memory(rt),
+            Err(_) => return report_out_of_memory(rt),
         }
     }
     USAGE
@@ -144,10 +144,10 @@ fn check_all<R: AllocGlobal + Files + Input + Print + Eprint>(
     looks: Looks,
 ) -> u8 {
     let mut status = FAULTLESS;
-    let counts = looks.counts && names.len() > COUNTED;
+    let reports = looks.reports_progress && names.len() > FILES_PER_MESSAGE;
     for (i, name) in names.iter().enumerate() {
-        if counts && i > 0 && i % COUNTED == 0 {
-            tell_count(rt, i, names.len());
+        if reports && i > 0 && i % FILES_PER_MESSAGE == 0 {
+            report_progress(rt, i, names.len());
         }
         status = status.max(check(rt, asked, name, looks.paint));
     }
@@ -155,7 +155,7 @@ fn check_all<R: AllocGlobal + Files + Input + Print + Eprint>(
 }
 
 /// Reports progress.
-fn tell_count<R: Eprint>(rt: &R, checked: usize, all: usize) {
+fn report_progress<R: Eprint>(rt: &R, checked: usize, all: usize) {
     let _ = eprintln!(rt; "lam_check: {checked} of {all} files are checked");
 }
 
@@ -168,7 +168,7 @@ fn check<R: AllocGlobal + Files + Input + Print + Eprint>(
 ) -> u8 {
     let text = match text_of(rt, rt.alloc(), name) {
         Ok(text) => text,
-        Err(ReadFault::Memory) => return want_of_memory(rt),
+        Err(ReadFault::Memory) => return report_out_of_memory(rt),
         Err(fault) => return tell_of(rt, name, &fault, DEVICE),
     };
     match asked.shown {
@@ -210,7 +210,7 @@ fn tell_faults<R: AllocGlobal + Print + Eprint>(
 /// Prints a report, and returns the exit status for it.
 fn tell_checked<R: Print + Eprint>(rt: &R, told: Result<Checked, AllocError>) -> u8 {
     let Ok(checked) = told else {
-        return want_of_memory(rt);
+        return report_out_of_memory(rt);
     };
     let status = if checked.count == 0 {
         FAULTLESS
@@ -224,7 +224,7 @@ fn tell_checked<R: Print + Eprint>(rt: &R, told: Result<Checked, AllocError>) ->
 fn tell_types<R: AllocGlobal + Print + Eprint>(rt: &R, dialect: Dialect, text: &str) -> u8 {
     match types_text(rt.alloc(), text, dialect) {
         Ok(types) => tell(rt, &types),
-        Err(_) => want_of_memory(rt),
+        Err(_) => report_out_of_memory(rt),
     }
 }
 
@@ -237,21 +237,21 @@ fn tell_found<R: AllocGlobal + Print + Eprint>(
     found: Result<Option<String>, AllocError>,
 ) -> u8 {
     let Ok(found) = found else {
-        return want_of_memory(rt);
+        return report_out_of_memory(rt);
     };
     if let Some(told) = found {
         return tell(rt, &told);
     }
     match absence_at(rt.alloc(), text, place) {
         Ok(absence) => tell_of(rt, name, &absence.message(), FAULTY),
-        Err(_) => want_of_memory(rt),
+        Err(_) => report_out_of_memory(rt),
     }
 }
 
 /// Reports a problem with a file on standard error, and returns the exit status: the one given, unless allocation fails.
 fn tell_of<R: AllocGlobal + Eprint, D: Display>(rt: &R, name: &str, matter: &D, status: u8) -> u8 {
     let Ok(shown) = shown_line(rt.alloc(), shown_name(name)) else {
-        return want_of_memory(rt);
+        return report_out_of_memory(rt);
     };
     let _ = eprintln!(rt; "lam_check: {shown}: {matter}");
     status
@@ -274,7 +274,7 @@ fn shown_name(name: &str) -> &str {
 }
 
 /// Reports that allocation failed, and returns the exit status.
-fn want_of_memory<R: Eprint>(rt: &R) -> u8 {
+fn report_out_of_memory<R: Eprint>(rt: &R) -> u8 {
     let _ = eprintln!(rt; "lam_check: out of memory");
     MEMORY
 }

@@ -32,21 +32,21 @@ use std::alloc::{AllocError, AllocFailed, Global};
 /// Why a value cannot be read as a derivation of a text. Entries and steps are counted from 0.
 #[derive(Clone, Copy, Debug, PartialEq, Eq)]
 pub enum Unread {
-    /// It is no object of exactly a context and steps, both lists.
+    /// The value is not an object with exactly the members `context` and `steps`, both lists.
     Derivation,
-    /// This entry of the context is no object of exactly a name, a string, and a type.
+    /// This entry of the context is not an object with exactly the members `name`, a string, and `type`.
     Entry(usize),
     /// The type of this entry is neither null nor the text of a readable type.
     EntryType(usize),
-    /// This step is no object of exactly the members of a typing or a subtyping step.
+    /// This step is not an object with exactly the members of a typing or of a subtyping step.
     Step(usize),
-    /// No typing rule, or no subtyping rule in a subtyping step, has the name that this step gives.
+    /// The rule of this step is not the name of a typing rule or, in a subtyping step, of a subtyping rule.
     Rule(usize),
     /// A type in this step is not the text of a readable type.
     Type(usize),
     /// The range of this step is not that of a readable span of the text.
     Range(usize),
-    /// The premises of this step are no list of natural numbers.
+    /// The premises of this step are not a list of natural numbers.
     From(usize),
     /// An allocation failed.
     Memory,

@@ -118,7 +118,7 @@ fn place_of(doc: &Doc, offset: usize) -> Position
     ensures line { result.line + 1 < 2 ^ 64 }
     ensures column { result.character + 1 < 2 ^ 64 }
 {
-    // No line or column exceeds the length of the text.
+    // For the proof alone: no line or column exceeds the length of the text, and one more than that is a `usize`.
     let _past = past(doc.text());
     doc.position_of(offset)
 }

@@ -4,7 +4,7 @@ use crate::files::{ReadFault, text_of};
 use crate::lines::shown_line;
 use crate::verdicts::{sent_of, verdict};
 use crate::{
-    DEVICE, FAULTLESS, FAULTY, STANDARD_INPUT, tell, tell_checked, tell_of, want_of_memory,
+    DEVICE, FAULTLESS, FAULTY, STANDARD_INPUT, report_out_of_memory, tell, tell_checked, tell_of,
 };
 use serde_json::{Category, Error, Value};
 use std::alloc::{AllocError, Global};
@@ -64,7 +64,7 @@ fn tell_verdict<R: AllocGlobal + Files + Input + Print + Eprint>(
     };
     let text = match text_of(rt, rt.alloc(), source) {
         Ok(text) => text,
-        Err(ReadFault::Memory) => return want_of_memory(rt),
+        Err(ReadFault::Memory) => return report_out_of_memory(rt),
         Err(fault) => return tell_of(rt, source, &fault, DEVICE),
     };
     tell_checked(
@@ -73,7 +73,7 @@ fn tell_verdict<R: AllocGlobal + Files + Input + Print + Eprint>(
     )
 }
 
-/// Returns the name of a file that can be read again, so none of standard input.
+/// Returns the name of a file, unless it stands for standard input, which cannot be read again.
 fn readable(file: Option<&str>) -> Option<&str> {
     if file == Some(STANDARD_INPUT) || file == Some(INPUT) {
         return None;
@@ -81,7 +81,7 @@ fn readable(file: Option<&str>) -> Option<&str> {
     file
 }
 
-/// Reports that a text with so many lines above it in its file is not JSON, and returns the exit status.
+/// Reports that a text is not JSON, and returns the exit status. `above` is the number of lines before it in its file.
 fn tell_no_json<R: AllocGlobal + Print + Eprint>(
     rt: &R,
     name: &str,
@@ -89,11 +89,11 @@ fn tell_no_json<R: AllocGlobal + Print + Eprint>(
     above: usize,
 ) -> u8 {
     if fault.classify() == Category::Memory {
-        return want_of_memory(rt);
+        return report_out_of_memory(rt);
     }
     match no_json(rt.alloc(), fault, above) {
         Ok(what) => tell_line(rt, name, &what),
-        Err(_) => want_of_memory(rt),
+        Err(_) => report_out_of_memory(rt),
     }
 }
 
@@ -117,10 +117,10 @@ fn without_position(message: &str) -> &str {
 /// Prints a problem with a file, and returns the exit status.
 fn tell_line<R: AllocGlobal + Print + Eprint>(rt: &R, name: &str, what: &str) -> u8 {
     let Ok(shown) = shown_line(rt.alloc(), name) else {
-        return want_of_memory(rt);
+        return report_out_of_memory(rt);
     };
     match format!(in rt.alloc(); "{shown}: {what}\n") {
         Ok(line) => FAULTY.max(tell(rt, &line)),
-        Err(_) => want_of_memory(rt),
+        Err(_) => report_out_of_memory(rt),
     }
 }

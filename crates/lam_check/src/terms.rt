@@ -157,7 +157,7 @@ fn binder_in(header: &str) -> Option<&str>
     binder_behind(rest)
 }
 
-/// Returns the `x:T` of a `letrec`, from the text behind its first letter; `None` for a `let`.
+/// Returns the `x:T` of a `letrec`, from the text after its first letter; `None` for a `let`.
 fn binder_behind(rest: &str) -> Option<&str>
     ensures { option_copied result ≡ binder_behind rest.now }
 {

@@ -52,7 +52,7 @@ pub fn verdict(
     }
 }
 
-/// The message of a value that could not be read for another reason than memory.
+/// The message that says why a value cannot be read. `Unread::Memory` has none.
 #[tactic(auto, unfolding(crate::specs::Verdicts::unread_text))]
 fn unread_message(alloc: Global, fault: Unread) -> Result<String, AllocError>
     ensures not_memory { IfOk result (λ _. fault ≡ Memory → ⊥) }
@@ -66,7 +66,10 @@ fn unread_message(alloc: Global, fault: Unread) -> Result<String, AllocError>
             )?;
         }
         Unread::Entry(entry) => {
-            write!(out, "entry {entry} is not an object with a name and a type")?;
+            write!(
+                out,
+                "entry {entry} is not an object with exactly the members `name`, a string, and `type`"
+            )?;
         }
         Unread::EntryType(entry) => {
             write!(
