@@ -1,5 +1,5 @@
 -- What a turn does, by the result of the reader and by what answering the message did.
-use Rattle.std.proofs.Common.{◌≡◌, ◌<◌, ◌≤◌, ℕ, ◌^◌, List, ◌++◌, Option, Some, None, Result, Ok, Err, refl, sym, ◌∙◌, subst}
+use Rattle.std.proofs.Common.{◌≡◌, ◌<◌, ◌≤◌, ℕ, ◌^◌, List, ◌++◌, Option, Some, Result, Ok, Err, refl, sym, ◌∙◌, subst}
 use Rattle.std.specs.List.{concat}
 use Rattle.serde_json.specs.Data.{Data}
 use Rattle.lam_frame.specs.Device.{SourceView, SinkView}
@@ -15,14 +15,14 @@ use Rattle.lam_server.specs.inner.Answer.StopsAnswering.{before_sending as nothi
 use Rattle.lam_server.specs.Output.{Takes, frames_of}
 use Rattle.lam_server.specs.Program.{fault_of_run}
 use Rattle.lam_server.specs.inner.Turn.{TakesTurn, TurnSays}
-use Rattle.lam_server.specs.inner.Turn.Ends.{by_message, by_silence}
+use Rattle.lam_server.specs.inner.Turn.Ends.{by_message}
 use Rattle.lam_server.specs.inner.Turn.DeviceStops.{at_pull, at_limit, at_sink}
 use Rattle.lam_server.specs.inner.Turn.MemoryStops.{before_sending, while_sending}
 use Rattle.lam_server.specs.inner.Waiting.{Waiting}
 use Rattle.lam_server.specs.declared.faults.RunFault.{RunFault}
 use Rattle.lam_server.specs.declared.faults.RunFault.TheVariants.{Header, Device as DeviceRun, Memory as MemoryRun}
 use Rattle.lam_server.specs.declared.server.Turn.{Turn}
-use Rattle.lam_server.specs.declared.server.Turn.TheVariants.{More, End}
+use Rattle.lam_server.specs.declared.server.Turn.TheVariants.{End}
 
 -- the session took the message, and its values were written or not
 pub answers_body : {W : Type 0} (to : SinkView W) (old new : Snapshot) (body : List ℕ) (message : Message) (values : List Data) (sink sink_after : W) (answer : Result (Unit {0}) RunFault)

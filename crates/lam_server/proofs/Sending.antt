@@ -12,7 +12,7 @@ use Rattle.lam_frame.specs.declared.fault.FrameFault.{FrameFault}
 use Rattle.lam_frame.specs.declared.fault.FrameFault.TheVariants.{Device}
 use Rattle.lam_session.specs.Outgoing.{data_of}
 use Rattle.lam_session.specs.declared.outgoing.Outgoing.{Outgoing}
-use Rattle.lam_server.specs.Device.{IsFlushedAfter, Sends, FailsToSend, StopsSending}
+use Rattle.lam_server.specs.Device.{IsFlushedAfter, Sends, FailsToSend}
 use Rattle.lam_server.specs.Output.{frames_of}
 
 -- the frames of two lists of values together are those of the first and then those of the second

@@ -25,7 +25,8 @@ const ABOUT: &str = "A language server for the typed lambda calculus with record
     It speaks LSP 3.17 on standard input and output. The request fullsub/derivation asks for a \
     derivation of the type under the cursor.";
 
-const STATUSES: &str = "Exit status: 0 after shutdown and exit, 1 if the input ends without them, \
+const STATUSES: &str =
+    "Exit status: 0 on exit after shutdown, 1 on exit without it or if the input ends without exit, \
     2 on a usage error, 3 if the input is not a sequence of frames, 4 if reading or writing fails, \
     5 if memory runs out.";
 
@@ -38,6 +39,7 @@ pub enum ArgsFault {
     /// A usage error: its message, for standard error.
     #[error("{0}")]
     Usage(String),
+    /// An allocation failed.
     #[error("F7 Memory")]
     Memory,
 }

@@ -8,6 +8,7 @@ use lam_frame::FrameFault;
 use std::alloc::AllocError;
 use thiserror::Error;
 
+/// Why a run ends without an exit status from the session.
 #[derive(Clone, Copy, Debug, PartialEq, Eq, Error)]
 pub enum RunFault {
     /// The bytes after the answered messages do not begin with a frame, for one of five reasons: `NoLength`, `BadLength`,

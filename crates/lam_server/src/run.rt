@@ -15,9 +15,9 @@ use std::alloc::Global;
 /// Serves the input to its end or the end of the session, and returns the exit status of the program.
 ///
 /// The output is the session's answers about the current texts, in the dialect of `config`:
-/// - A hover shows the least type of the innermost term under the declarative rules, and a derivation of it is provided.
-/// - A term is reported exactly where the rules give it no type, although each of its parts has one and the error is nowhere
-///   else. A text has type errors exactly if a written type denotes no type, or a definition or a term command has no type.
+/// - A hover shows the least type that the declarative rules give to the innermost term; on request, a derivation of it is given.
+/// - A term is reported exactly if the rules give it no type, each of its parts has one, and the error is not reported elsewhere.
+///   A text has type errors exactly if a written type denotes no type, or a definition or a term command has no type.
 /// - The edits of a rename preserve binding.
 /// - After a dot, exactly those labels are listed for which the projection has a type.
 ///

@@ -1,13 +1,14 @@
-//! Tests that need in-memory devices: that a run goes turn by turn and answers each message before it reads on, and what it leaves
-//! when one call of a device fails.
+//! Tests that need in-memory devices: that a run goes turn by turn and answers each message before it reads on, what it leaves when
+//! one call of a device fails, and that the values of `Session::step` are what it writes.
 ghost use Rattle.std.specs.Prelude.{◌≡◌, Some, ⊤};
 
 use crate::faults::RunFault;
 use crate::run::run;
 use crate::server::{Server, Turn};
 use lam_frame::{BytesIn, BytesOut, DeviceFault, FailAt, Sink, Source};
+use lam_rpc::classify;
 use lam_rules::Dialect;
-use lam_session::Config;
+use lam_session::{Config, Session};
 use std::alloc::{AllocError, Global};
 use std::cell::Cell;
 
@@ -162,8 +163,8 @@ fn answers_before_it_pulls_again(rt: HostRuntime) {
     assert_eq!(rt; writer.bytes(), ANSWERS.as_bytes());
 }
 
-/// The bodies of a session that opens and changes a text, and requests a type, a derivation, completions and a rename.
-const BODIES: [&str; 9] = [
+/// The bodies of a session that opens and changes a text, and requests a type, a derivation, completions, references and a rename.
+const BODIES: [&str; 10] = [
     "{\"jsonrpc\":\"2.0\",\"id\":0,\"method\":\"initialize\"}",
     "{\"jsonrpc\":\"2.0\",\"method\":\"textDocument/didOpen\",\"params\":{\"textDocument\":{\"uri\":\"file:///h\",\"text\":\"f : {a:Nat}->Nat; f {a=0, b=true}; f {}\"}}}",
     "{\"jsonrpc\":\"2.0\",\"method\":\"textDocument/didChange\",\"params\":{\"textDocument\":{\"uri\":\"file:///h\",\"version\":2},\"contentChanges\":[{\"range\":{\"start\":{\"line\":0,\"character\":33},\"end\":{\"line\":0,\"character\":34}},\"text\":\"0\"}]}}",
@@ -171,12 +172,13 @@ const BODIES: [&str; 9] = [
     "{\"jsonrpc\":\"2.0\",\"id\":2,\"method\":\"fullsub/derivation\",\"params\":{\"textDocument\":{\"uri\":\"file:///h\"},\"position\":{\"line\":0,\"character\":18}}}",
     "{\"jsonrpc\":\"2.0\",\"id\":3,\"method\":\"textDocument/completion\",\"params\":{\"textDocument\":{\"uri\":\"file:///h\"},\"position\":{\"line\":0,\"character\":18}}}",
     "{\"jsonrpc\":\"2.0\",\"id\":4,\"method\":\"textDocument/rename\",\"params\":{\"textDocument\":{\"uri\":\"file:///h\"},\"position\":{\"line\":0,\"character\":0},\"newName\":\"g\"}}",
-    "{\"jsonrpc\":\"2.0\",\"id\":5,\"method\":\"shutdown\"}",
+    "{\"jsonrpc\":\"2.0\",\"id\":5,\"method\":\"textDocument/references\",\"params\":{\"textDocument\":{\"uri\":\"file:///h\"},\"position\":{\"line\":0,\"character\":0},\"context\":{\"includeDeclaration\":true}}}",
+    "{\"jsonrpc\":\"2.0\",\"id\":6,\"method\":\"shutdown\"}",
     "{\"jsonrpc\":\"2.0\",\"method\":\"exit\"}",
 ];
 
 /// The number of answers due before each pull, and at the end.
-const OWED: [usize; 10] = [0, 1, 2, 3, 4, 5, 6, 7, 8, 8];
+const OWED: [usize; 11] = [0, 1, 2, 3, 4, 5, 6, 7, 8, 9, 9];
 
 /// The bodies as frames.
 fn frames(alloc: Global) -> Result<Vec<String>, AllocError> {
@@ -220,28 +222,56 @@ fn session(
 
 #[test]
 fn each_pull_fails_in_turn(rt: HostRuntime) -> Result<(), AllocError> {
-    for pull in 1..10usize {
-        let (outcome, written) = session(rt.alloc(), 9, pull as u64, 0)?;
+    for pull in 1..11usize {
+        let (outcome, written) = session(rt.alloc(), 10, pull as u64, 0)?;
         let (_, answers) = session(rt.alloc(), pull.wrapping_sub(1), 0, 0)?;
         assert_eq!(rt; outcome, Err(RunFault::Device));
         assert_eq!(rt; written, answers);
     }
-    let (outcome, _) = session(rt.alloc(), 9, 10, 0)?;
+    let (outcome, _) = session(rt.alloc(), 10, 11, 0)?;
     assert_eq!(rt; outcome, Ok(0));
     Ok(())
 }
 
-/// Eight answers take two pushes and a flush each.
+/// Nine answers take two pushes and a flush each.
 #[test]
 fn each_push_and_flush_fails_in_turn(rt: HostRuntime) -> Result<(), AllocError> {
-    let (_, whole) = session(rt.alloc(), 9, 0, 0)?;
-    for call in 1..25u64 {
-        let (outcome, written) = session(rt.alloc(), 9, 0, call)?;
+    let (_, whole) = session(rt.alloc(), 10, 0, 0)?;
+    for call in 1..28u64 {
+        let (outcome, written) = session(rt.alloc(), 10, 0, call)?;
         assert_eq!(rt; outcome, Err(RunFault::Device));
         assert!(rt; whole.starts_with(&written));
     }
-    let (outcome, written) = session(rt.alloc(), 9, 0, 25)?;
+    let (outcome, written) = session(rt.alloc(), 10, 0, 28)?;
     assert_eq!(rt; outcome, Ok(0));
     assert_eq!(rt; written, whole);
+    Ok(())
+}
+
+/// Appends the values that a message is answered with, as frames.
+fn push_answers(
+    alloc: Global,
+    session: &mut Session,
+    body: &str,
+    out: &mut String,
+) -> Result<(), AllocError> {
+    let incoming = classify(alloc, body.as_bytes())?;
+    for value in session.step(incoming)? {
+        let text = value.to_string(alloc)?;
+        write!(out, "Content-Length: {}\r\n\r\n{text}", text.len())?;
+    }
+    Ok(())
+}
+
+#[test]
+fn steps_give_the_values_that_a_run_writes(rt: HostRuntime) -> Result<(), AllocError> {
+    let mut session_by_steps = Session::new(rt.alloc(), Config::new(Dialect::One));
+    let mut answers = String::new(rt.alloc());
+    for body in BODIES.as_slice() {
+        push_answers(rt.alloc(), &mut session_by_steps, body, &mut answers)?;
+    }
+    let (_, written) = session(rt.alloc(), 10, 0, 0)?;
+    assert_eq!(rt; answers.as_bytes(), written.as_slice());
+    assert_eq!(rt; session_by_steps.ended(), Some(0));
     Ok(())
 }
