@@ -136,7 +136,7 @@ fn bounds_of_texts(
 }
 
 #[test]
-fn types_that_texts_write(rt: HostRuntime) -> Result<(), Fail> {
+fn joins_and_meets_of_written_types(rt: HostRuntime) -> Result<(), Fail> {
     check_rows(&rt, rt.alloc(), bounds_of_texts, &ROWS)
 }
 

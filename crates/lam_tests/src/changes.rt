@@ -1,4 +1,4 @@
-//! How many commands a change types again: those that it touches, and those with names whose meaning changes.
+//! How many commands a change types again: those that it touches, and those that use a name whose meaning changes.
 
 use crate::written::check_rows;
 use Uses::{First, Nothing, Previous};

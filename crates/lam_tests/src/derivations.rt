@@ -94,7 +94,7 @@ fn tree_from(alloc: Global, step: Step, trees: &mut Vec<Option<Tree>>) -> Result
     }
 }
 
-/// The proof that ends in the last step. Each other step must be a premise of one behind it.
+/// The proof that ends in the last step. Each other step must be a premise of a later one.
 fn proof_of(alloc: Global, steps: Vec<Step>) -> Result<TypeProof, Fail> {
     let mut trees = Vec::new(alloc);
     for step in steps {
@@ -218,7 +218,7 @@ static CUT: [((&str, usize), &str); 3] = [
 ];
 
 #[test]
-fn the_checker_misses_the_use_of_a_subtype(rt: HostRuntime) -> Result<(), Fail> {
+fn the_checker_rejects_a_proof_without_its_subsumption_steps(rt: HostRuntime) -> Result<(), Fail> {
     check_rows(&rt, rt.alloc(), cut, &CUT)
 }
 

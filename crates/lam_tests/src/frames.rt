@@ -126,7 +126,7 @@ static INPUTS: [Row; 24] = [
 ];
 
 #[test]
-fn answers_do_not_depend_on_the_pieces_and_the_last_one_stays(
+fn answers_do_not_depend_on_the_pieces_and_nothing_follows_an_end_or_an_error(
     rt: HostRuntime,
 ) -> Result<(), AllocError> {
     check_rows(&rt, rt.alloc(), by_bytes, &INPUTS)?;
@@ -180,7 +180,7 @@ impl Read for Breaks<'_> {
 }
 
 #[test]
-fn an_interrupted_read_is_tried_again_and_a_failed_one_is_told(
+fn an_interrupted_read_is_tried_again_and_a_failed_one_is_reported(
     rt: HostRuntime,
 ) -> Result<(), AllocError> {
     let mut source = FromRead::new(Breaks {
@@ -247,7 +247,7 @@ static SLOW: [((usize, u8), &str); 3] = [
 ];
 
 #[test]
-fn a_slow_writer_gets_all_and_a_full_or_broken_one_is_told(
+fn a_slow_writer_gets_all_and_a_full_or_broken_one_is_reported(
     rt: HostRuntime,
 ) -> Result<(), AllocError> {
     check_rows(&rt, rt.alloc(), slowly, &SLOW)

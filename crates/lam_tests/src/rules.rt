@@ -91,7 +91,7 @@ fn unit_under_twice(alloc: Global) -> Result<bool, AllocError> {
 }
 
 #[test]
-fn a_label_that_stands_twice(rt: HostRuntime) -> Result<(), AllocError> {
+fn a_type_that_repeats_a_label(rt: HostRuntime) -> Result<(), AllocError> {
     equal(
         &rt,
         &texts_of_twice(rt.alloc())?,
@@ -132,7 +132,7 @@ fn accepted(alloc: Global, (last, others): (Claim, &'static [Claim])) -> Result<
 
 const WIDER: Claim = (SubRule::RcdWidth, "{a:Nat, b:Bool}", "{a:Nat}");
 
-static STEPS: [((Claim, &[Claim]), &str); 6] = [
+static STEPS: [((Claim, &[Claim]), &str); 11] = [
     ((WIDER, &[]), "true"),
     (
         ((SubRule::RcdWidth, "{a:Nat, b:Bool}", "{b:Bool}"), &[]),
@@ -169,6 +169,32 @@ static STEPS: [((Claim, &[Claim]), &str); 6] = [
         ),
         "false",
     ),
+    (
+        (
+            (SubRule::Arrow, "Top->Nat", "Nat->Top"),
+            &[(SubRule::Top, "Nat", "Top"), (SubRule::Top, "Nat", "Top")],
+        ),
+        "true",
+    ),
+    (
+        (
+            (SubRule::Arrow, "Nat->Nat", "Top->Top"),
+            &[(SubRule::Top, "Nat", "Top"), (SubRule::Top, "Nat", "Top")],
+        ),
+        "false",
+    ),
+    (
+        (
+            (SubRule::RcdPerm, "{a:Nat, b:Bool}", "{b:Bool, a:Nat}"),
+            &[],
+        ),
+        "true",
+    ),
+    (
+        ((SubRule::RcdPerm, "{a:Nat, b:Bool}", "{a:Nat}"), &[]),
+        "false",
+    ),
+    (((SubRule::BoolNat, "Bool", "Nat"), &[]), "false"),
 ];
 
 #[test]

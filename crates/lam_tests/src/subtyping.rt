@@ -170,7 +170,7 @@ fn in_two(alloc: Global, (lower, upper): (&str, &str)) -> Result<String, Fail> {
 }
 
 #[test]
-fn types_that_texts_write(rt: HostRuntime) -> Result<(), Fail> {
+fn subtyping_of_written_types(rt: HostRuntime) -> Result<(), Fail> {
     check_rows(&rt, rt.alloc(), in_one, &ROWS)?;
     check_rows(&rt, rt.alloc(), in_two, &ROWS)?;
     check_rows(&rt, rt.alloc(), in_one, &IN_ONE)?;

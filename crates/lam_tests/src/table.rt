@@ -113,6 +113,6 @@ static DOUBLED: [(usize, &str); 7] = [
 ];
 
 #[test]
-fn types_doubled_up_to_forty_times(rt: HostRuntime) -> Result<(), AllocError> {
+fn types_doubled_up_to_41_times(rt: HostRuntime) -> Result<(), AllocError> {
     check_rows(&rt, rt.alloc(), turned, &DOUBLED)
 }

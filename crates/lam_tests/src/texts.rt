@@ -6,7 +6,7 @@ use crate::written::equal;
 use lam_text::{Change, Doc, Encoding, Position, Range};
 use std::alloc::{AllocError, Global};
 
-/// A line end put in place of the first letter of the second line.
+/// A letter and a line end in place of the first letter of the second line.
 fn change_of_a_line(alloc: Global) -> Result<Change, AllocError> {
     let start = Position {
         line: 1,
@@ -22,7 +22,7 @@ fn change_of_a_line(alloc: Global) -> Result<Change, AllocError> {
     })
 }
 
-/// Meant for a run in which each allocation fails in turn.
+/// Meant for `rt try --test --fail-alloc N`, in which allocation number N fails.
 #[test]
 fn unchanged_where_memory_is_refused(rt: HostRuntime) -> Result<(), AllocError> {
     let mut doc = Doc::new(rt.alloc(), "a\r\nb", Encoding::Utf8)?;

@@ -86,7 +86,7 @@ fn tokens_of_texts(rt: HostRuntime) -> Result<(), AllocError> {
     check_rows(&rt, rt.alloc(), shown, &TEXTS)
 }
 
-/// The pieces of a text, with a bar behind each and a dot behind each of its tokens.
+/// The pieces of a text, with a bar after each and a dot after each of its tokens.
 fn divided(alloc: Global, text: &str) -> Result<String, AllocError> {
     let tokens = lex(alloc, text)?;
     let mut line = String::new(alloc);
