@@ -16,6 +16,7 @@ from texts import Mistake
 HERE = os.path.dirname(os.path.realpath(__file__))
 BUILT = os.path.join(HERE, "..", "crates", "lam_server", "out", "lam_server")
 EXAMPLES = os.path.join(HERE, "..", "examples")
+PAGE = os.path.join(HERE, "..", "docs", "LANGUAGE.md")
 
 
 def built(named):
@@ -101,10 +102,10 @@ def main():
     words = argparse.ArgumentParser(description=__doc__)
     words.add_argument("--program", action="append", help="a program to play against (else those that the gate built)")
     words.add_argument("--show", action="store_true", help="print the files that were played, too")
-    words.add_argument("rows", nargs="*", help="row files (else all of this folder, and the wrong ones of wrong/, which must fail)")
+    words.add_argument("rows", nargs="*", help="row files, or pages with examples (else all of this folder, docs/LANGUAGE.md, and the wrong ones of wrong/, which must fail)")
     given = words.parse_args()
     programs = built(given.program)
-    files = given.rows or sorted(glob.glob(f"{HERE}/*.rows"))
+    files = given.rows or [*sorted(glob.glob(f"{HERE}/*.rows")), PAGE]
     right, wrong = count_right(programs, [os.path.relpath(it) for it in files])
     for file in files if given.show else []:
         with open(file, encoding="utf-8") as it:

@@ -1,4 +1,4 @@
-"""Row files, read: README.md in this folder says how they are written."""
+"""Row files, read: README.md in this folder says how they are written. The examples of a page in Markdown are rows, too."""
 
 import json
 import os
@@ -8,6 +8,7 @@ from dataclasses import dataclass, field
 from texts import ENCODINGS, Line, Mistake, expanded, units
 
 MARK = re.compile(r"  ( *)([~^]*)(?: +(.*))?$")
+MARKED = re.compile(r" *[~^]")
 AT = re.compile(r"at (\d+):(\d+)(?:\.\.(\d+):(\d+))?(?: in (\d+):(\d+)\.\.(\d+):(\d+))? (.*)$")
 LINE_ENDS = {"LF": "\n", "CR": "\r", "CR LF": "\r\n"}
 
@@ -119,6 +120,23 @@ def number(rest):
     return int(rest)
 
 
+def numbered(file, text):
+    """The lines of a row file with their numbers. Of a page these are the blocks of `fsub`, each as a row."""
+    lines = enumerate(text.split("\n"), 1)
+    if not file.endswith(".md"):
+        yield from lines
+        return
+    is_inside = False
+    for at, line in lines:
+        if line.startswith("```"):
+            is_inside = line.startswith("```fsub")
+            if is_inside:
+                yield at, "== an example"
+                yield at, f"dialect {2 if line.endswith('dialect=2') else 1}"
+        elif is_inside:
+            yield at, ("  " if MARKED.match(line) else "| ") + line
+
+
 class Reader:
     """Reads one file, line by line."""
 
@@ -132,7 +150,7 @@ class Reader:
     def read(self):
         """The rows of the file, and its mistakes as pairs of line and reason."""
         with open(self.file, encoding="utf-8", newline="\n") as it:
-            for at, source in enumerate(it.read().split("\n"), 1):
+            for at, source in numbered(self.file, it.read()):
                 try:
                     self.take(at, source)
                 except (Mistake, ValueError, IndexError) as mistake:
