@@ -13,7 +13,7 @@ URI = "file:///a"
 TOKENS = 2000
 LEVELS = 4095
 
-# The texts that the program answers with 8 MiB of stack but, so far, not with 4, the last two only if Rattle's own compiler built it.
+# The texts that the program answers with 8 MiB of stack but, if Rattle's own compiler built it, not with 4.
 LARGE = ("application to the left", "parentheses in a term that stay open", "application of a numeral")
 
 # Terms that stand in a layer as they are written. There `!` says that what stands before it is the first term of a letrec, which is read

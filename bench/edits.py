@@ -463,7 +463,7 @@ def count_right(program, given):
             print(told)
             break
         right += 1
-    print(f"{os.path.relpath(program)}: {counts['edits'].total()} edits, {1 if told else 0} differences; seed {given.seed}")
+    print(f"{os.path.relpath(program)}: {sum(counts['edits'].values())} edits, {1 if told else 0} differences; seed {given.seed}")
     for line in lines_of(counts):
         print(line)
     print(f"  {time.monotonic() - start:.1f} s", flush=True)

@@ -1,6 +1,6 @@
 #!/usr/bin/env python3
-"""gate.py: the merge gate. It checks whether docs/TRUSTED.md lists what has to be believed, runs `rt ci`, that is every proof from nothing,
-the tests and the edits that must fail, then plays the rows against the program as both compilers build it, edits random documents in it and
+"""gate.py: the merge gate. It checks whether docs/TRUSTED.md lists what has to be believed, runs `rt ci`, that is every proof
+that has not passed on this machine before, the tests and the edits that must fail, then plays the rows against the program as both compilers build it, edits random documents in it and
 compares its answers with those about the same texts opened anew, counts what requests and changes allocate in a short and in a long text,
 plays sessions while memory is refused to it, does to it what a machine does to a process, and prints what all of it took. The last line counts
 all of this: 'N passed, M failed'."""

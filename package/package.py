@@ -42,8 +42,8 @@ Priority: optional
 Description: language server for the lambda calculus with records and subtyping
  Shows types, derivations and type errors of texts in the language of Pierce's
  Types and Programming Languages to Neovim, Emacs and other editors that speak
- LSP, and checks files without an editor. What it says is proved to follow from
- the book's rules.
+ LSP, and checks files without an editor. The types and type errors that it
+ shows are proved to follow from typing rules written after the book's.
 """
 
 
