@@ -28,8 +28,8 @@ use std::mem;
 
 impl Analysis {
     /// Turns the analysis of the old text into that of the new one. Rows before and after the change are reused, except those of
-    /// commands with a free name whose meaning changed. Nothing is reused if, since the last analysis from scratch, the
-    /// tables have grown or text was read more than `is_overgrown` allows. On an error the old analysis is gone, since it is taken by value.
+    /// commands with a free name whose meaning changed. Nothing is reused if, since the last analysis from scratch, the tables have
+    /// grown or text was read more than `is_overgrown` allows. On an error the old analysis is gone, since it is taken by value.
     pub fn changed(self, alloc: Global, old: &str, new: &str) -> Result<Analysis, AllocError>
         requires { IsAnalysisOf old.now self }
         ensures of { IfOk result (λ made. IsAnalysisOf new.now made) }

@@ -142,7 +142,7 @@ impl Conversation {
         }
     }
 
-    /// Handles a request before `initialize`: no other is served.
+    /// Handles a request before the session is initialized: only `initialize` is served.
     fn before_initialize(
         self,
         id: Value,
@@ -222,7 +222,7 @@ impl Conversation {
         }
     }
 
-    /// Handles a notification between `initialize` and `shutdown`.
+    /// Handles a notification after `initialize` and before `shutdown`.
     fn notice_while_running(
         self,
         method: NoticeMethod,
