@@ -65,18 +65,14 @@ fn unread_message(alloc: Global, fault: Unread) -> Result<String, AllocError>
                 "it is not an object with exactly the members `context` and `steps`, both lists",
             )?;
         }
-        Unread::Entry(entry) => {
-            write!(
-                out,
-                "entry {entry} is not an object with exactly the members `name`, a string, and `type`"
-            )?;
-        }
-        Unread::EntryType(entry) => {
-            write!(
-                out,
-                "entry {entry} has an unreadable type, or one of over 4,096 levels"
-            )?;
-        }
+        Unread::Entry(entry) => write!(
+            out,
+            "entry {entry} is not an object with exactly the members `name`, a string, and `type`"
+        )?,
+        Unread::EntryType(entry) => write!(
+            out,
+            "entry {entry} has an unreadable type, or one of over 4,096 levels"
+        )?,
         Unread::Step(step) => {
             write!(
                 out,
