@@ -67,19 +67,6 @@ first_of said (m ∷ ns) n is =
 
 -- one premise after another
 
-pub map_drop : {A B : Type 0} (f : A → B) (xs : List A) (k : ℕ) (x : A) → k < length xs → x ≡ get_or xs k x → map f (drop k xs) ≡ f x ∷ map f (drop (k + 1) xs)
-map_drop f xs k x inside is = rw add-one (rw (drop-cons xs k x inside) (ap (λ y. f y ∷ map f (drop (suc k) xs)) (sym is)))
-
-pub types_split : (c : Option Conclusion) (cs : List (Option Conclusion)) → types_said (c ∷ cs) ≡ types_said (c ∷ []) ++ types_said cs
-types_split None cs = refl
-types_split (Some (typing r s t)) cs = refl
-types_split (Some (subtyping r l u)) cs = refl
-
-pub claims_split : (c : Option Conclusion) (cs : List (Option Conclusion)) → claims_said (c ∷ cs) ≡ claims_said (c ∷ []) ++ claims_said cs
-claims_split None cs = refl
-claims_split (Some (typing r s t)) cs = refl
-claims_split (Some (subtyping r l u)) cs = refl
-
 pub types_more : (ps : List TypeProof) (p : TypeProof) → types_concluded (ps ++ p ∷ []) ≡ types_concluded ps ++ typ_of (out-TypeProof p).ty ∷ []
 types_more [] p = refl
 types_more (q ∷ ps) p = ap (λ ts. typ_of (out-TypeProof q).ty ∷ ts) (types_more ps p)

@@ -156,7 +156,8 @@ fn push_each<'a>(
     Ok(())
 }
 
-/// Whether a step of typing follows by its rule for this part. What its premises are about is put on the stack.
+/// Whether a step of typing follows by its rule for this part. What its premises are about is put on the stack. Nothing is asked of
+/// a step of subtyping; none comes here, since `premise_of` goes by the kind of a step.
 fn is_right_typing<'a>(
     alloc: Global,
     state: &mut State<'a>,
@@ -351,7 +352,7 @@ fn last_of(alloc: Global, mut subs: Vec<SubProof>) -> Result<Option<Box<SubProof
     }
 }
 
-/// Whether a step of subtyping follows by its rule.
+/// Whether a step of subtyping follows by its rule. Nothing is asked of a step of typing; none comes here, as above.
 fn is_right_sub(
     alloc: Global,
     step: &Step,
