@@ -1,14 +1,15 @@
 #!/usr/bin/env python3
-"""edits.py [PROGRAM ..] [--checker PROGRAM] [--count N] [--seed N]: makes random edits in random documents, and compares what the built program answers about
-the document that was edited with what it answers about the same text opened anew.
+"""edits.py [PROGRAM ..] [--checker PROGRAM] [--count N] [--seed N] [--apart N]: makes random edits in random documents, and compares what the built
+program answers about the documents with what it answers about the same texts opened anew.
 
-After each edit the text is opened as a second document of the session, which is closed again, and after some edits in a process of its
-own. Compared are the published diagnostics and, at two places, the type, the derivation, the definition, the references, a rename and
-the completions, byte for byte. Derivations with columns in UTF-16 are verified against their text by `lam_check --verify`. Sessions
-are in both dialects and the three encodings; bench/texts_at_random.py makes the documents. The same seed makes the same edits.
+A session has three documents open. Each step edits one of them, or closes it and opens it again, and asks about it, and some steps about another one,
+too. The same is asked about the same text in a fourth document, opened for this and closed again, and after some steps each question is asked in
+a process of its own, which is given that text and that question alone. Compared are the published diagnostics and, at one place, the type, the
+derivation, the definition, the references, a rename and the completions, at five more the type alone, byte for byte. The derivations are verified
+against their texts by `lam_check --verify`. Sessions are in both dialects and the three encodings; bench/texts_at_random.py makes the documents.
+The same seed makes the same edits.
 
-At the first difference the text before, the edit and both answers are printed. A session counts once. The last line is
-'N passed, M failed'.
+At the first difference the edit, the question, the texts and both answers are printed. A session counts once. The last line is 'N passed, M failed'.
 """
 
 import argparse
@@ -27,26 +28,36 @@ HERE = os.path.dirname(os.path.realpath(__file__))
 CHECKER = os.path.join(HERE, "..", "crates", "lam_check", "out", "lam_check")
 sys.path.insert(0, os.path.join(HERE, "..", "rows"))
 
-from client import SECONDS, bodies_of, compact, framed, position, span
+from client import SECONDS, bodies_of, compact, framed, position, published, span
 from play import built
 from texts import ENCODINGS, LINE_END, edited, units
 from texts_at_random import NAMES, TOKENS, TYPE_NAMES, Writer, document, doubled, laid_out
 
-# How many edits a session has. In one of so many sessions the documents are long: it types so many commands that it starts from scratch.
+# How many edits a session has. In one of so many sessions the first document is long: it is never closed, and has most of the edits, by these
+# rates, so that so many commands are typed that its analysis starts from scratch.
 LENGTH = 100
 LONG = 5
+RATES = (8, 1, 1)
 
-# A type is asked for at so many places, everything else at two of them.
-PLACES = 8
+# A type is asked for at so many places, everything else at one of them.
+PLACES = 6
 
-# After one edit in so many the text is opened in a process of its own.
+# After one edit in so many each question is asked in a process of its own, too.
 APART = 40
+
+# How likely it is that another document is asked about, too, and that a document is not edited but closed and opened again.
+OTHER = 0.25
+AGAIN = 1 / 12
 
 # A longer text is given up for another one.
 LONGEST = 20_000
 
-# The edited document is called so in every session; the name of the other document is as long.
-EDITED, ANEW = "file:///edited", "file:///opened"
+# The edited documents are called so in every session; the name of the fourth one is as long.
+EDITED, ANEW = ("file:///first", "file:///other", "file:///third"), "file:///fresh"
+
+# The method of a question that nobody has to ask, and the shape of an edit that closes its document and opens it again.
+DIAGNOSTICS = "diagnostics"
+CLOSED = "closed and opened again"
 
 WORD = re.compile(r"[^\W\d][\w']*")
 
@@ -87,20 +98,36 @@ def between(old, new):
 
 @dataclass
 class Edit:
-    """An edit: its shape, the text before it, the changes that a client sends, and the text behind it."""
+    """An edit: its document and shape, the text before it, the changes that a client sends, the text behind it and its version, and the number of
+    the answer to it, which is the diagnostics."""
 
+    uri: str
     shape: str
     before: str
     changes: list
     after: str
+    version: int
+    answer: int = 0
+
+
+@dataclass
+class Question:
+    """A question about a document as an edit left it, and the numbers of the answers about that document and about the fourth one."""
+
+    edit: Edit
+    method: str
+    params: dict
+    answer: int
+    anew: int = 0
 
 
 class Editor:
-    """Edits one document at random, and knows its earlier texts."""
+    """Edits one document at random, and knows its earlier texts and its last edit."""
 
-    def __init__(self, random, encoding, is_long):
-        self.random, self.encoding, self.is_long = random, encoding, is_long
+    def __init__(self, uri, random, encoding, is_long):
+        self.uri, self.random, self.encoding, self.is_long = uri, random, encoding, is_long
         self.texts = [document(random, is_long)]
+        self.last = Edit(uri, "opened", "", [], self.texts[0], 0)
         self.makes = {
             "characters put in": self.put_in,
             "characters taken out": self.take_out,
@@ -112,16 +139,20 @@ class Editor:
             "at the end": self.append,
         }
 
-    def edit(self):
-        """Makes the next edit."""
+    def edit(self, version):
+        """Makes the next edit, or opens the document again: with its own text, an earlier one, or a new one."""
         before, is_too_long = self.texts[-1], len(self.texts[-1]) > LONGEST
-        if not is_too_long and len(self.texts) > 1 and self.random.random() < BACK:
+        if not self.is_long and self.random.random() < AGAIN:
+            after = self.random.choice((before, self.random.choice(self.texts[-20:]), document(self.random)))
+            shape, changes = CLOSED, []
+        elif not is_too_long and len(self.texts) > 1 and self.random.random() < BACK:
             shape, (changes, after) = "back to an earlier text", self.back(before)
         else:
             shape = "whole text" if is_too_long else self.random.choices(list(SHAPES), SHAPES.values())[0]
             changes, after = self.made(shape, before)
         self.texts.append(after)
-        return Edit(shape, before, changes, after)
+        self.last = Edit(self.uri, shape, before, changes, after, version)
+        return self.last
 
     def made(self, shape, text):
         """The changes of an edit of this shape, and the text behind them."""
@@ -167,11 +198,8 @@ class Editor:
     def command(self, text):
         """A new command, which may use names of the text."""
         writer = Writer(self.random, faulty=self.random.choice((0, 0, 20)))
-        writer.names = {it: writer.some_type() for it in self.random.choices(self.words(text), k=3)}
+        writer.names = {it: writer.some_type() for it in self.random.choices(WORD.findall(text) or NAMES, k=3)}
         return writer.command() + self.random.choice((";", ";", ";\n", ";\r\n", ""))
-
-    def words(self, text):
-        return WORD.findall(text) or list(NAMES)
 
     # The shapes.
 
@@ -287,140 +315,166 @@ class Editor:
 
 
 class Talk:
-    """What a client says to one run of the program."""
+    """What a client says to one run of the program. Each message but `exit` is answered by one other, so both have the same number."""
 
     def __init__(self, dialect, encoding):
-        self.dialect, self.frames = dialect, []
+        self.dialect, self.frames, self.closed = dialect, [], {}
         self.say("initialize", {"capabilities": {"general": {"positionEncodings": [encoding]}}}, 0)
 
-    def say(self, method, params, number=None):
+    def say(self, method, params, id_of=None):
+        """Says it; the number of the message."""
         message = {"jsonrpc": "2.0", "method": method, "params": params}
-        self.frames.append(framed(compact({**message, "id": number} if number is not None else message)))
+        self.frames.append(framed(compact({**message, "id": id_of} if id_of is not None else message)))
+        return len(self.frames) - 1
 
     def open(self, uri, text, version):
         document = {"uri": uri, "languageId": "fullsub", "version": version, "text": text}
-        self.say("textDocument/didOpen", {"textDocument": document})
+        return self.say("textDocument/didOpen", {"textDocument": document})
 
-    def change(self, uri, changes, version):
-        self.say("textDocument/didChange", {"textDocument": {"uri": uri, "version": version}, "contentChanges": changes})
+    def edit(self, edit):
+        if edit.shape == CLOSED:
+            self.close(edit.uri)
+            return self.open(edit.uri, edit.after, edit.version)
+        document = {"uri": edit.uri, "version": edit.version}
+        return self.say("textDocument/didChange", {"textDocument": document, "contentChanges": edit.changes})
 
-    def ask(self, uri, questions, version):
-        for at, (method, params) in enumerate(questions):
-            self.say(method, {"textDocument": {"uri": uri}, **params}, f"{uri} {version} {at}")
+    def ask(self, uri, question):
+        return self.say(question.method, {"textDocument": {"uri": uri}, **question.params}, f"{uri} {question.answer}")
 
     def close(self, uri):
-        self.say("textDocument/didClose", {"textDocument": {"uri": uri}})
+        self.closed[self.say("textDocument/didClose", {"textDocument": {"uri": uri}})] = published(uri, None, [])
 
     def answers(self, program):
-        """All that the program answers, and how it ends where that is not by itself."""
+        """All that the program answers, with empty texts for what does not come, and how it ends where that is not by itself."""
         self.say("shutdown", None, 1)
-        self.say("exit", None)
+        count = self.say("exit", None)
         words = [os.path.abspath(program), "--dialect", self.dialect]
         done = subprocess.run(words, input=b"".join(self.frames), capture_output=True, timeout=SECONDS, check=False)
         bodies, rest = bodies_of(done.stdout)
         told = done.stderr.decode(errors="replace").strip()
-        return bodies, f"status {done.returncode}, {told!r}" if done.returncode or rest or told else None
+        answers = bodies + [""] * (count - len(bodies))
+        closed = next((answers[at] for at, it in self.closed.items() if answers[at] != it), None)
+        if done.returncode or rest or told or closed or len(bodies) != count:
+            behind = f", behind a close {closed}" if closed else ""
+            return answers, f"status {done.returncode}, {told!r}, {len(bodies)} answers to {count} messages{behind}"
+        return answers, None
 
 
 class Session:
-    """A document that is edited so many times, in the dialect and the encoding of the session's number."""
+    """Three documents with so many edits in all, in the dialect and the encoding of the session's number."""
 
     def __init__(self, seed, number, length):
         self.random = Random(f"{seed} {number}")
         self.dialect, self.encoding = "12"[number % 2], ENCODINGS[number // 2 % 3]
         self.number, self.talk = number, Talk(self.dialect, self.encoding)
-        self.editor = Editor(self.random, self.encoding, is_long=number % LONG == LONG - 1)
-        self.talk.open(EDITED, self.editor.texts[0], 0)
-        self.edits = []
+        is_long = number % LONG == LONG - 1
+        editors = [Editor(it, self.random, self.encoding, is_long and it == EDITED[0]) for it in EDITED]
+        for it in editors:
+            it.last.answer = self.talk.open(it.uri, it.last.after, 0)
+        self.steps = []
         for version in range(1, length + 1):
-            edit = self.editor.edit()
-            questions = self.questions(edit)
-            self.edits.append((edit, questions))
-            self.talk.change(EDITED, edit.changes, version)
-            self.talk.ask(EDITED, questions, version)
-            self.talk.open(ANEW, edit.after, version)
-            self.talk.ask(ANEW, questions, version)
-            self.talk.close(ANEW)
+            editor = self.random.choices(editors, RATES if is_long else None)[0]
+            other = self.random.choice([it for it in editors if it is not editor])
+            edit = editor.edit(version)
+            edit.answer = self.talk.edit(edit)
+            self.steps.append(self.asked([edit, other.last] if self.random.random() < OTHER else [edit]))
+
+    def asked(self, edits):
+        """Asks about the documents of these edits, and then the same about their texts opened anew; all questions."""
+        asked = [self.ask(it) for it in edits]
+        for it in asked:
+            self.ask_anew(it)
+        return sum(asked, [])
+
+    def ask(self, edit):
+        """Asks about a document as its last edit left it; the questions, of which the first one stands for the diagnostics."""
+        asked = [Question(edit, DIAGNOSTICS, {}, edit.answer)]
+        for method, params in self.questions(edit):
+            asked.append(Question(edit, method, params, len(self.talk.frames)))
+            self.talk.ask(edit.uri, asked[-1])
+        return asked
+
+    def ask_anew(self, asked):
+        """Asks the same about the fourth document, opened with the same text and closed again."""
+        asked[0].anew = self.talk.open(ANEW, asked[0].edit.after, asked[0].edit.version)
+        for it in asked[1:]:
+            it.anew = self.talk.ask(ANEW, it)
+        self.talk.close(ANEW)
 
     def questions(self, edit):
-        """What is asked behind an edit, types at some places and all else at two: methods, and their params but for the document."""
-        asked, places = [], [{"position": position(it)} for it in self.places(edit)]
-        for where in places[2:]:
-            asked.append(("textDocument/hover", where))
-        for where in places[:2]:
-            new = self.random.choice((*NAMES, *TYPE_NAMES, *self.editor.words(edit.after)[:50], "fresh", "Fresh", "in", "0", ""))
-            asked += [(f"textDocument/{it}", where) for it in ("hover", "completion", "definition")]
-            asked.append(("textDocument/references", {**where, "context": {"includeDeclaration": self.random.random() < 0.5}}))
-            asked.append(("textDocument/rename", {**where, "newName": new}))
-            asked.append(("fullsub/derivation", where))
-        return asked
+        """What is asked behind an edit, types at some places and all else at one: methods, and their params but for the document."""
+        where, *others = ({"position": position(it)} for it in self.places(edit))
+        new = self.random.choice((*NAMES, *TYPE_NAMES, *WORD.findall(edit.after, 0, 300), "fresh", "Fresh", "in", "0", ""))
+        return [
+            *(("textDocument/hover", it) for it in others),
+            *((f"textDocument/{it}", where) for it in ("hover", "completion", "definition")),
+            ("textDocument/references", {**where, "context": {"includeDeclaration": self.random.random() < 0.5}}),
+            ("textDocument/rename", {**where, "newName": new}),
+            ("fullsub/derivation", where),
+        ]
 
     def places(self, edit):
         """Places of characters: of words, behind dots, near the edit, and any; some are behind the end of their line."""
         text = edit.after
-        any_of = list(range(len(text) + 1))
+        any_of = range(len(text) + 1)
         words = [it.start() for it in WORD.finditer(text)] or any_of
         dots = [it.end() for it in re.finditer(r"\.", text)] or any_of
-        front = between(edit.before, text)[0]
+        front = len(os.path.commonprefix([edit.before, text]))
         near = any_of[max(front - 3, 0) : front + 6]
         for spots in self.random.choices((words, dots, near, any_of), (10, 2, 4, 4), k=PLACES):
             line, column = place_of(text, self.random.choice(spots), self.encoding)
             yield line, column + self.random.choice((*9 * (0,), 1, 300))
 
-    def played(self, program, checker, counts):
+    def played(self, program, given, counts):
         """Plays the session; what is wrong, or nothing. Counts what was edited and answered."""
-        bodies, end = self.talk.answers(program)
+        answers, end = self.talk.answers(program)
         derivations = []
-        at, title = 2, f"session {self.number}, dialect {self.dialect}, {self.encoding}"
-        for version, (edit, questions) in enumerate(self.edits, 1):
-            length = len(questions) + 1
-            ours, others = bodies[at : at + length], bodies[at + length : at + 2 * length]
-            at += 2 * length + 1
-            told = difference(edit, questions, ours, [it.replace(ANEW, EDITED) for it in others], "a second document")
-            if not told and version % APART == self.number % APART:
-                told = difference(edit, questions, ours, self.apart(program, edit, questions, version), "a process of its own")
-            if told:
-                return f"{title}, edit {version}:\n{told}\n  it ended with {end or 'status 0'}"
-            count(counts, edit, questions, ours)
-            derivations += [(edit.after, it) for it in derivations_in(questions, ours)]
-        if end or len(bodies) != at + 1:
-            return f"{title}: {len(bodies)} answers, {end}"
-        told = unverified(checker, self.dialect, derivations) if self.encoding == "utf-16" else None
+        title = f"session {self.number}, dialect {self.dialect}, {self.encoding}"
+        for version, asked in enumerate(self.steps, 1):
+            is_apart = version % given.apart == self.number % given.apart
+            for it in asked:
+                ours, anew = answers[it.answer], answers[it.anew].replace(ANEW, it.edit.uri)
+                told = difference(asked[0].edit, it, ours, anew, "a fourth document")
+                if is_apart and not told:
+                    told = difference(asked[0].edit, it, ours, self.apart(program, it), "a process of its own")
+                if told:
+                    return f"{title}, edit {version}:\n{told}\n  it ended with {end or 'status 0'}"
+                count(counts, it, ours, is_apart)
+                if it.method == "fullsub/derivation" and (derivation := json.loads(ours).get("result")):
+                    derivations.append((it.edit.after, derivation))
+            counts["edits"][asked[0].edit.shape] += 1
+        told = end or unverified(given.checker, self, derivations)
         return f"{title}: {told}" if told else None
 
-    def apart(self, program, edit, questions, version):
-        """What is answered about the text in a process of its own."""
-        talk = Talk(self.dialect, self.encoding)
-        talk.open(EDITED, edit.after, version)
-        talk.ask(EDITED, questions, version)
-        return talk.answers(program)[0][1:-1]
+    def apart(self, program, question):
+        """What is answered in a process of its own, which is given this text and this question alone."""
+        talk, edit = Talk(self.dialect, self.encoding), question.edit
+        talk.open(edit.uri, edit.after, edit.version)
+        if question.method != DIAGNOSTICS:
+            talk.ask(edit.uri, question)
+        answers, end = talk.answers(program)
+        return end or answers[-2]
 
 
-def difference(edit, questions, ours, others, where):
+def difference(edit, question, ours, other, where):
     """How the answers differ, or nothing."""
-    asked = [("diagnostics", {}), *questions]
-    if len(ours) == len(others) == len(asked) and ours == others:
+    if ours and ours == other:
         return None
-    at = next((at for at, _ in enumerate(asked) if ours[at : at + 1] != others[at : at + 1]), 0)
     shown = {
+        "edited": edit.uri,
         "text before": compact(edit.before),
         "edit": f"{edit.shape}, {compact(edit.changes)}",
-        "asked": compact(asked[at]),
-        "of the edited document": (ours[at : at + 1] or ["nothing"])[0],
-        f"opened anew, in {where}": (others[at : at + 1] or ["nothing"])[0],
+        "asked about": question.edit.uri,
+        "its text now": compact(question.edit.after),
+        "asked": compact([question.method, question.params]),
+        "of this document": ours or "nothing",
+        f"opened anew, in {where}": other or "nothing",
     }
     return "\n".join(f"  {name}: {it}" for name, it in shown.items())
 
 
-def derivations_in(questions, answers):
-    """The derivations among the answers to these questions."""
-    for (method, _), answer in zip(questions, answers[1:]):
-        if method == "fullsub/derivation" and json.loads(answer)["result"]:
-            yield json.loads(answer)["result"]
-
-
-def unverified(checker, dialect, derivations):
-    """What the checker says of the derivations, each with the text that it is of, where it does not accept all; else nothing."""
+def unverified(checker, session, derivations):
+    """What the checker says of the session's derivations, each with the text that it is of, where it does not accept all; else nothing."""
     if not derivations:
         return None
     with tempfile.TemporaryDirectory() as room:
@@ -429,7 +483,7 @@ def unverified(checker, dialect, derivations):
                 with open(f"{room}/{number}", "wb") as it:
                     it.write(text.encode())
                 print(compact({"derivation": derivation, "file": f"{number}"}), file=lines)
-        words = [os.path.abspath(checker), "--dialect", dialect, "--verify", "derivations"]
+        words = [os.path.abspath(checker), "--dialect", session.dialect, "--position-encoding", session.encoding, "--verify", "derivations"]
         done = subprocess.run(words, cwd=room, capture_output=True, timeout=SECONDS, check=False)
     verdicts = done.stdout.decode().splitlines()
     if done.returncode == 0 and len(verdicts) == len(derivations):
@@ -438,12 +492,14 @@ def unverified(checker, dialect, derivations):
     return f"{verdicts[refused : refused + 1]}, {done.stderr.decode()!r}\n  {compact(derivations[refused : refused + 1])}"
 
 
-def count(counts, edit, questions, answers):
-    """Counts the edit's shape, the codes of its text's diagnostics, and the answers that tell something."""
-    counts["edits"][edit.shape] += 1
-    counts["texts"].update(set(re.findall(r'"code":"(\w+)"', answers[0])) or {"no diagnostic"})
-    for (method, _), answer in zip(questions, answers[1:]):
-        counts["answers"][method.partition("/")[2]] += not re.search(r'"error":|"result":(null|\[\])', answer)
+def count(counts, question, answer, is_apart):
+    """Counts what is compared: the codes of the diagnostics, else the request, and its answer where that tells something."""
+    if question.method == DIAGNOSTICS:
+        counts["texts"].update(set(re.findall(r'"code":"(\w+)"', answer)) or {"no diagnostic"})
+        return
+    counts["answers"][question.method.partition("/")[2]] += not re.search(r'"error":|"result":(null|\[\])', answer)
+    counts["requests"]["compared with a fourth document"] += 1
+    counts["requests"]["compared with a process of its own"] += is_apart
 
 
 def lines_of(counts):
@@ -455,10 +511,10 @@ def lines_of(counts):
 def count_right(program, given):
     """Plays sessions up to the first difference; prints it and what was counted, and returns how many are right and how many wrong."""
     start, right, told = time.monotonic(), 0, None
-    counts = {it: collections.Counter() for it in ("edits", "texts", "answers")}
+    counts = {it: collections.Counter() for it in ("edits", "texts", "answers", "requests")}
     for number in range(-(-given.count // LENGTH)):
         session = Session(given.seed, number, min(LENGTH, given.count - number * LENGTH))
-        told = session.played(program, given.checker, counts)
+        told = session.played(program, given, counts)
         if told:
             print(told)
             break
@@ -476,6 +532,7 @@ def main():
     words.add_argument("--checker", default=CHECKER, help="what verifies derivations (else what the gate built)")
     words.add_argument("--count", type=int, default=2000, help="how many edits are made (else 2000)")
     words.add_argument("--seed", type=int, default=7, help="what the random numbers are made of (else 7)")
+    words.add_argument("--apart", type=int, default=APART, help=f"after one edit in so many each question has a process of its own (else {APART})")
     given = words.parse_args()
     right, wrong = map(sum, zip(*(count_right(it, given) for it in built(given.programs))))
     print(f"{right} passed, {wrong} failed")
