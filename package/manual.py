@@ -2,8 +2,9 @@
 """manual.py PROGRAM FOLDER: writes the manual pages of both programs to the folder. That of the language server, which is PROGRAM, is made from what
 `PROGRAM --help` prints and from lam_server.1.in beside this script.
 
-What the program says of itself, its options and its exit status stands in its help alone, so page and program agree. A line of the help
-that is not understood is an error. package.py takes from here the completion for bash too, of both programs.
+What the server says of itself, its options and its exit status stands in its help alone, so page and program agree. A line of the help
+that is not understood is an error. The page of the checker says more than its help, and is lam_check.1.in as it stands, with the version
+put in. package.py takes from here the completion for bash too, of both programs.
 """
 
 import os
@@ -13,7 +14,7 @@ import sys
 
 HERE = os.path.dirname(os.path.realpath(__file__))
 HELP = re.compile(r"(?P<about>.+?)\n\nUsage: (?P<name>\w+) (?P<usage>.*?)\n\n(?:Arguments:\n.+?\n\n)?Options:\n(?P<options>.+?)\n\nExit status: (?P<statuses>.+)\.\n", re.S)
-OPTION = re.compile(r" +(?:(-\w), )?(--\w+)(?: <([\w:]+)>)? {2,}(\S.*)")
+OPTION = re.compile(r" +(?:(-\w), )?(--[\w-]+)(?: <([\w:]+)>)? {2,}(\S.*)")
 STATUS = re.compile(r"(\d+) (.+?)(?:, (?=\d)|$)")
 VALUES = re.compile(r"\[possible values: (.+?)\]")
 

@@ -2,8 +2,9 @@
 """check.py [--program PATH]: runs the built checker on files, and looks at what it writes and how it ends.
 
 A case has its options, the text of each file, what it must write and its status; what it must write on standard error is given where it
-writes there, and that this is a terminal where it is one. A file's text is `bytes` where it is no text. Each case prints a line only where it is wrong. Then the derivations
-that the checker writes for the examples are read back by it, and have to be accepted. The last line is 'N passed, M failed'.
+writes there. A file's text is `bytes` where it is no text. Standard error or standard output can be a terminal, and memory can be short.
+Each case prints a line only where it is wrong. Then the derivations that the checker writes for the examples are read back by it, and have
+to be accepted. The last line is 'N passed, M failed'.
 """
 
 import argparse
@@ -11,6 +12,7 @@ import glob
 import json
 import os
 import pty
+import resource
 import subprocess
 import sys
 import tempfile
@@ -110,6 +112,31 @@ LATEX = r"""\documentclass[border=8pt]{standalone}
 \DisplayProof
 \end{document}
 """
+HTML = """<!DOCTYPE html>
+<html>
+<head>
+<meta charset=utf-8>
+<title>Derivation</title>
+<style>
+body { font-family: monospace; margin: 2em; }
+details { border-left: 1px solid #bbb; margin-left: 0.5em; padding-left: 1em; }
+summary { cursor: pointer; padding: 0.15em 0 0.15em 1.1em; text-indent: -1.1em; overflow-wrap: anywhere; }
+details:not(:has(> details)) > summary { cursor: default; list-style: none; text-indent: 0; }
+summary i { color: #666; padding-left: 1em; white-space: nowrap; }
+</style>
+</head>
+<body>
+<details open><summary>succ true : Nat <i>T-Succ</i></summary>
+<details open><summary>true : Nat <i>T-Sub</i></summary>
+<details open><summary>true : Bool <i>T-True</i></summary>
+</details>
+<details open><summary>Bool &lt;: Nat <i>S-BoolNat</i></summary>
+</details>
+</details>
+</details>
+</body>
+</html>
+"""
 RECURSION_LATEX = (
     LATEX[: LATEX.index("\\AxiomC")]
     + r"""\AxiomC{}
@@ -137,6 +164,10 @@ DIAGNOSTIC = {
 }
 STEPS = {"context": [], "steps": [{"from": [], "range": {"end": {"character": 1, "line": 0}, "start": {"character": 0, "line": 0}}, "rule": "T-Num", "type": "Nat"}]}
 
+
+# Before the term of this line, a character of four bytes and one of two: 9 characters, 10 units of UTF-16, 13 bytes.
+BEHIND = "/* 😀ö */ "
+COLUMNS = (("utf-8", 13), ("utf-16", 10), ("utf-32", 9))
 
 # Each kind of term that can be to blame for the types of its parts, and what is told of it.
 WRONG = """f = lambda r:{x:Nat}. r.x;
@@ -258,6 +289,12 @@ def below(rule, lower, upper, *premises):
     return {"from": list(premises), "lower": lower, "rule": rule, "upper": upper}
 
 
+def numeral(column):
+    """A line with the derivation of a numeral in this column of the file `a`."""
+    steps = [step("T-Num", column, column + 1, "Nat")]
+    return line({"derivation": {"context": [], "steps": steps}, "file": "a"})
+
+
 def derived(text, *steps, **context):
     """The text in the file `a`, and a line with these steps about it, in a context of these names and types."""
     names = [{"name": name, "type": ty} for name, ty in context.items()]
@@ -354,8 +391,10 @@ class Case:
     status: int
     told: str = ""
     given: bytes = b""
-    terminal: bool = False
+    terminal: bool = False  # standard error is one
+    painted: dict = None  # standard output is a terminal, and the environment has these variables besides
     full: bool = False  # standard output has no room
+    memory: int = 0  # at most so many bytes of address space, if it is not 0
 
 
 def refused(name, why):
@@ -383,9 +422,17 @@ CASES = [
     Case("a file that is gone, and others", ["gone", "a"], {"a": "x"}, "a:1:1: error[E1]: unbound name\nx\n^\n", 4, refused("gone", "No such file or directory (os error 2)")),
     Case("a folder", ["."], {}, "", 4, refused(".", "Is a directory (os error 21)")),
     Case("not UTF-8", ["a"], {"a": b"a = \xff"}, "", 4, refused("a", "it is not UTF-8 from byte 4 on")),
+    Case("64 MiB", ["a"], {"a": b" " * (1 << 26)}, "", 0),
     Case("more than 64 MiB", ["a"], {"a": b" " * ((1 << 26) + 1)}, "", 4, refused("a", "it has more than 64 MiB")),
+    Case("too little memory", ["a"], {"a": "x = 0; " * 1_000_000}, "", 5, "lam_check: out of memory\n", memory=1 << 26),
+    Case("colours on a terminal", ["a"], {"a": "x"}, "a:1:1: \x1b[1;31merror[E1]\x1b[0m: unbound name\nx\n\x1b[1;31m^\x1b[0m\n", 1, painted={}),
+    Case("no colours where NO_COLOR is set", ["a"], {"a": "x"}, "a:1:1: error[E1]: unbound name\nx\n^\n", 1, painted={"NO_COLOR": "1"}),
+    Case("colours where NO_COLOR is empty", ["a"], {"a": "x"}, "a:1:1: \x1b[1;31merror[E1]\x1b[0m: unbound name\nx\n\x1b[1;31m^\x1b[0m\n", 1, painted={"NO_COLOR": ""}),
+    Case("characters that turn the direction of a line", ["a"], {"a": "/* \u202e\u2066 */ x"}, f"a:1:10: error[E1]: unbound name\n/* \ufffd\ufffd */ x\n{' ' * 9}^\n", 1),
     Case("a NUL", ["a"], {"a": "a = 0;\0"}, "a:1:7: error[B1]: character not allowed\na = 0;\ufffd\n      ^\n", 1),
     Case("types", ["--types", "a"], {"a": CALL + "P = {b:Bool, a:Nat}; n : P;"}, "point : {name:Bool, x:Nat}\nnext : {x:Nat}->Nat\nNat\nP :: {a:Nat, b:Bool}\nn : {a:Nat, b:Bool}\n", 0),
+    Case("types in the second dialect", ["--dialect", "2", "--types", "a"], {"a": "x = if true then 0 else true"}, "x : Nat\n", 0),
+    Case("types in the first dialect", ["--types", "a"], {"a": "x = if true then 0 else true"}, "x : Top\n", 0),
     Case("faults before types", ["--types", "a"], {"a": "succ true; a = 0"}, "a:1:1: error[E6]: operand is not Nat\nsucc true; a = 0\n^^^^^^^^^ expected Nat, found Bool\na : Nat\n", 1),
     Case("a derivation", ["--why", "3:1", "a"], {"a": CALL.replace("next point;", " next point;")}, "", 1, refused("a", "no type is shown there")),
     Case("a derivation as a tree", ["--why", "3:5", "a"], {"a": CALL}, TREE, 0),
@@ -396,6 +443,8 @@ CASES = [
     Case("a fix in a let is drawn as it is written", ["--why", "1:1", "a"], {"a": "let x = fix (lambda y:Nat. y) in x"}, BOUND.replace("letrec'", "x"), 0),
     Case("a let of a name that begins as letrec", ["--why", "1:1", "a"], {"a": "let letrec' = fix (lambda y:Nat. y) in letrec'"}, BOUND, 0),
     Case("a derivation in LaTeX", ["--why", "1:1", "--latex", "a"], {"a": "{a=0}"}, LATEX, 0),
+    Case("a derivation in HTML and in the second dialect", ["--dialect", "2", "--why", "1:1", "--html", "a"], {"a": "succ true"}, HTML, 0),
+    Case("a derivation beside a fault", ["--why", "1:7", "a"], {"a": "true; 0; succ true"}, "0 : Nat  (T-Num)\n", 0),
     Case("a line that there is not", ["--why", "9:1", "a"], {"a": "0"}, "", 1, refused("a", "the text has no such line")),
     Case("a line that there is not, as JSON", ["--json", "--why", "2:9", "a"], {"a": "0"}, "", 1, refused("a", "the text has no such line")),
     Case("the line after the last line end", ["--why", "2:1", "a"], {"a": "0;\n"}, "", 1, refused("a", "no type is shown there")),
@@ -411,10 +460,26 @@ CASES = [
     Case("no count of a hundred files", ["a"] * 100, {"a": "0"}, "", 0, terminal=True),
     Case("no count where there is no terminal", ["a"] * 201, {"a": "0"}, "", 0),
     Case("a diagnostic as JSON", ["--json", "a"], {"a": "0;   x"}, line({"diagnostics": [DIAGNOSTIC], "file": "a"}), 1),
+    Case("diagnostics as JSON in the second dialect", ["--dialect", "2", "--json", "a"], {"a": "succ true"}, line({"diagnostics": [], "file": "a"}), 0),
+    *(
+        Case(f"a diagnostic as JSON, in {encoding}", ["--json", "--position-encoding", encoding, "a"], {"a": BEHIND + "x"},
+             line({"diagnostics": [{**DIAGNOSTIC, "range": place(0, column, column + 1)}], "file": "a"}), 1)
+        for encoding, column in COLUMNS
+    ),
+    *(
+        Case(f"a derivation as JSON, in {encoding}", ["--json", "--position-encoding", encoding, "--why", "1:10", "a"], {"a": BEHIND + "0"}, numeral(column), 0)
+        for encoding, column in COLUMNS
+    ),
+    *(
+        Case(f"a derivation in {encoding} is verified", ["--verify", "--position-encoding", encoding, "d"], {"a": BEHIND + "0", "d": numeral(column)}, "d: accepted: 0 : Nat\n", 0)
+        for encoding, column in COLUMNS
+    ),
+    Case("a derivation in UTF-8 is read in UTF-16", ["--verify", "d"], {"a": BEHIND + "0", "d": numeral(13)}, "d: step 0 does not have a range of characters of the text\n", 1),
+    Case("a derivation in UTF-32 is read in UTF-16", ["--verify", "d"], {"a": BEHIND + "0", "d": numeral(9)}, "d: step 0 is not about a term of the text\n", 1),
     Case("a derivation as JSON", ["--json", "--why", "1:1", "a"], {"a": "0"}, line({"derivation": STEPS, "file": "a"}), 0),
     Case("a derivation is verified", ["--verify", "d"], {"a": CALL, "d": sent()}, ACCEPTED, 0),
     Case("of a text that is named", ["--verify", "--of", "b", "d"], {"b": CALL, "d": json.dumps({"context": NAMES, "steps": PROOF}, indent=1)}, ACCEPTED, 0),
-    Case("of no text", ["--verify", "d"], {"d": line({"context": NAMES, "steps": PROOF})}, "d: it does not name its file: give it with --of\n", 1),
+    Case("of no text", ["--verify", "d"], {"d": line({"context": NAMES, "steps": PROOF})}, "d: it names no file that can be read: give the file of its text with --of\n", 1),
     Case("what is sent is verified, line by line", ["--verify", "d"], {"a": CALL, "d": sent() + sent((4, {"type": "Bool"}))}, ACCEPTED + "d: " + BELOW.format(4) + "\n", 1),
     Case("a numeral is verified", ["--verify", "d"], {"a": "0", "d": line({"derivation": STEPS, "file": "a"})}, "d: accepted: 0 : Nat\n", 0),
     Case("another type", ["--verify", "d"], {"a": CALL, "d": sent((1, {"type": "{x:Nat}"}))}, "d: " + BELOW.format(1) + "\n", 1),
@@ -487,8 +552,8 @@ CASES = [
     Case("blank lines between derivations", ["--verify", "d"], {"a": CALL, "d": sent() + "\n \r\n" + sent() + "\n"}, ACCEPTED + ACCEPTED, 0),
     Case("control characters in the name of a file of derivations", ["--verify", "d\x1b[2J"], {"a": CALL, "d\x1b[2J": sent()}, ACCEPTED.replace("d:", "d\ufffd[2J:", 1), 0),
     Case("control characters in the name of a text", ["--verify", "d"], {"d": line({"derivation": STEPS, "file": "a\x1b[2J"})}, "", 4, refused("a\ufffd[2J", "No such file or directory (os error 2)")),
-    Case("a derivation of standard input", ["--verify", "d"], {"d": line({"derivation": STEPS, "file": "<stdin>"})}, "d: it does not name its file: give it with --of\n", 1),
-    Case("a derivation of standard input, told by a dash", ["--verify", "d"], {"d": line({"derivation": STEPS, "file": "-"})}, "d: it does not name its file: give it with --of\n", 1, given=b"0"),
+    Case("a derivation of standard input", ["--verify", "d"], {"d": line({"derivation": STEPS, "file": "<stdin>"})}, "d: it names no file that can be read: give the file of its text with --of\n", 1),
+    Case("a derivation of standard input, told by a dash", ["--verify", "d"], {"d": line({"derivation": STEPS, "file": "-"})}, "d: it names no file that can be read: give the file of its text with --of\n", 1, given=b"0"),
     Case("a blank line before derivations", ["--verify", "d"], {"a": CALL, "d": "\n" + sent() + sent()}, ACCEPTED + ACCEPTED, 0),
     Case(
         "control characters in a label of a type",
@@ -519,6 +584,8 @@ CASES = [
     Case("a derivation and types", ["--why", "1:1", "--types", "a"], {"a": "0"}, "", 2, None),
     Case("a text of nothing", ["--of", "a", "a"], {"a": "0"}, "", 2, None),
     Case("no such option", ["--nope"], {}, "", 2, None),
+    Case("no such position encoding", ["--verify", "--position-encoding", "latin-1", "a"], {"a": "0"}, "", 2, None),
+    Case("a position encoding of no JSON", ["--position-encoding", "utf-8", "a"], {"a": "0"}, "", 2, "error: --position-encoding goes with --json or --verify\n"),
     Case("no place", ["--why", "1", "a"], {"a": "0"}, "", 2, "error: --why takes a line and a column, both from 1, as in 3:14\n"),
     Case("control characters in a wrong option", ["--nope\x1b[2J"], {}, "", 2, NOPE),
     Case("LaTeX and HTML", ["--latex", "--html", "--why", "1:1", "a"], {"a": "0"}, "", 2, None),
@@ -580,6 +647,11 @@ def subtypings():
 def ended(program, case, room):
     """A run, and what it wrote on standard error."""
     words = [program, *case.words]
+    if case.memory:
+        run = subprocess.run(words, cwd=room, capture_output=True, check=False, timeout=60, preexec_fn=lambda: resource.setrlimit(resource.RLIMIT_AS, (case.memory,) * 2))
+        return run, run.stderr.decode()
+    if case.painted is not None:
+        return painted(words, case, room)
     if case.full:
         with open("/dev/full", "wb") as full:
             run = subprocess.run(words, cwd=room, input=case.given, stdout=full, stderr=subprocess.PIPE, check=False, timeout=60)
@@ -594,6 +666,17 @@ def ended(program, case, room):
     told = written_on(near)
     os.close(near)
     return run, told.decode().replace("\r\n", "\n")
+
+
+def painted(words, case, room):
+    """A run with a terminal as its standard output, and what it wrote on standard error."""
+    near, far = pty.openpty()
+    variables = {**{name: it for name, it in os.environ.items() if name != "NO_COLOR"}, **case.painted}
+    run = subprocess.run(words, cwd=room, env=variables, stdout=far, stderr=subprocess.PIPE, check=False, timeout=60)
+    os.close(far)
+    run.stdout = written_on(near).replace(b"\r\n", b"\n")
+    os.close(near)
+    return run, run.stderr.decode()
 
 
 def written_on(terminal):
@@ -692,7 +775,7 @@ DERIVED = [
     ("1", HIDDEN, 85, f"y, x:Nat, r:{ROW}, _:Nat, x:{ROW} |- x : {ROW}"),
     # Other commands and pieces that are none.
     ("1", "; x = 0;; ( ; y = x;", 18, "x:Nat |- x : Nat"),
-    ("1", "x = 0; " * 10_000 + "x", 70_000, ", ".join(["x:Nat"] * 10_000) + " |- x : Nat"),
+    ("1", "x = 0; " * 25_000 + "x", 175_000, ", ".join(["x:Nat"] * 25_000) + " |- x : Nat"),
     # Large and deep ones.
     ("1", f"x = {fields(FIELDS, '=0')};", 4, f"{fields(FIELDS, '=0')} : {fields(FIELDS, ':Nat')}"),
     ("1", f"f = lambda r:{fields(TAKEN, ':Nat')}. r.l696;", 4, f"lambda r:{fields(TAKEN, ':Nat')}. r.l696 : {fields(TAKEN, ':Nat')}->Nat"),

@@ -8,7 +8,6 @@ use Rattle.serde_json.specs.Data.{Data}
 use Rattle.lam_rules.specs.Texts.{Text}
 use Rattle.lam_rules.specs.declared.rules.Dialect.{Dialect}
 use Rattle.lam_text.specs.declared.units.Encoding.{Encoding}
-use Rattle.lam_text.specs.declared.units.Encoding.TheVariants.{Utf16}
 use Rattle.lam_query.specs.Derivations.{Derivation}
 use Rattle.lam_query.specs.Views.{StepStandsIn, step_of}
 use Rattle.lam_query.specs.declared.answers.Step.{Step as RustStep}
@@ -38,18 +37,18 @@ steps_stand text (s ∷ steps) readable =
     by (rust.Sub rule lower upper premises) h = tt
 
 -- what holds of the document of a text holds of the text
-pub in_text : (P : Encoding → List ℕ → Type 0) {encoding : Encoding} {there text : List ℕ} → encoding ≡ Utf16 → there ≡ text → P encoding there → P Utf16 text
-in_text P {there = there} in_utf16 same h = subst (P Utf16) same (subst (λ e. P e there) in_utf16 h)
+pub in_text : (P : Encoding → List ℕ → Type 0) {own encoding : Encoding} {there text : List ℕ} → own ≡ encoding → there ≡ text → P own there → P encoding text
+in_text P {encoding = encoding} {there = there} like same h = subst (P encoding) same (subst (λ e. P e there) like h)
 
-module _ (text : List ℕ) (value : Data) (d : Dialect) where
+module _ (encoding : Encoding) (text : List ℕ) (value : Data) (d : Dialect) where
   -- the value is that of a readable derivation that is verified
   abbrev pub IsProof : Type 0
-  IsProof = (sent : IsVerifiedValue text value d) × IsReadable text sent.derivation
+  IsProof = (sent : IsVerifiedValue encoding text value d) × IsReadable text sent.derivation
 
   -- if a readable derivation of the value is not verified, none is: the value has no other one
-  pub no_proof : (x : Derivation) → IsUtf8 text → value ≡ derivation_value Utf16 text (Some x) → IsReadable text x → (IsVerified text x d → ⊥) → IsProof → ⊥
+  pub no_proof : (x : Derivation) → IsUtf8 text → value ≡ derivation_value encoding text (Some x) → IsReadable text x → (IsVerified text x d → ⊥) → IsProof → ⊥
   no_proof x utf8 is readable not_verified proof =
-      let same = one_readable Utf16 text utf8 proof.0.derivation x proof.1 readable (sym proof.0.is_value ∙ is) in
+      let same = one_readable encoding text utf8 proof.0.derivation x proof.1 readable (sym proof.0.is_value ∙ is) in
       not_verified (subst (λ y. IsVerified text y d) same proof.0.verified)
 
   pub none_counted : (r : Result Checked AllocError) → IsProof → IfOk r (λ v. v.count ≡ 0) → IfOk r (λ v. (v.count ≡ 0) ↔ IsProof)
@@ -60,23 +59,23 @@ module _ (text : List ℕ) (value : Data) (d : Dialect) where
   one_counted (Ok v) unproved one = ((λ none. (let clash : ◌≡◌ {A = ℕ} 0 1 = sym none ∙ one in absurd cc)), (λ proof. absurd (unproved proof)))
   one_counted (Err e) unproved one = tt
 
-module _ (name : Text) (text : List ℕ) (value : Data) (d : Dialect) where
+module _ (name : Text) (encoding : Encoding) (text : List ℕ) (value : Data) (d : Dialect) where
   abbrev IsReport : Checked → Type 0
-  IsReport v = IsVerdict name text value d (string_bytes v.report) v.count
+  IsReport v = IsVerdict name encoding text value d (string_bytes v.report) v.count
 
-  pub accepted_report : (r : Result Checked AllocError) (proof : IsProof text value d) → IfOk r (λ v. v.count ≡ 0) → IfOk r (λ v. string_bytes v.report ≡ accepted_line name text proof.0.derivation) → IfOk r IsReport
-  accepted_report (Ok v) proof none shown = subst (IsVerdict name text value d (string_bytes v.report)) (sym none) (accepts (record { sent = proof.0; readable = proof.1; shown = shown }))
+  pub accepted_report : (r : Result Checked AllocError) (proof : IsProof encoding text value d) → IfOk r (λ v. v.count ≡ 0) → IfOk r (λ v. string_bytes v.report ≡ accepted_line name text proof.0.derivation) → IfOk r IsReport
+  accepted_report (Ok v) proof none shown = subst (IsVerdict name encoding text value d (string_bytes v.report)) (sym none) (accepts (record { sent = proof.0; readable = proof.1; shown = shown }))
   accepted_report (Err e) proof none shown = tt
 
-  pub refused_report : (r : Result Checked AllocError) (x : Derivation) → value ≡ derivation_value Utf16 text (Some x) → IsReadable text x → (IsVerified text x d → ⊥) → (fault : FirstFault) → IsFirstFault text x d fault
+  pub refused_report : (r : Result Checked AllocError) (x : Derivation) → value ≡ derivation_value encoding text (Some x) → IsReadable text x → (IsVerified text x d → ⊥) → (fault : FirstFault) → IsFirstFault text x d fault
       → IfOk r (λ v. v.count ≡ 1) → IfOk r (λ v. string_bytes v.report ≡ refused_line name (message fault)) → IfOk r IsReport
   refused_report (Ok v) x is readable not_verified fault first one shown =
-      subst (IsVerdict name text value d (string_bytes v.report)) (sym one) (refuses (record { derivation = x; is_value = is; readable = readable; not_verified = not_verified; fault = fault; first = first; shown = shown }))
+      subst (IsVerdict name encoding text value d (string_bytes v.report)) (sym one) (refuses (record { derivation = x; is_value = is; readable = readable; not_verified = not_verified; fault = fault; first = first; shown = shown }))
   refused_report (Err e) x is readable not_verified fault first one shown = tt
 
-  pub unread_report : (r : Result Checked AllocError) (reason : Unread) → IsWrongFor Utf16 text value reason → IfOk r (λ v. v.count ≡ 1)
+  pub unread_report : (r : Result Checked AllocError) (reason : Unread) → IsWrongFor encoding text value reason → IfOk r (λ v. v.count ≡ 1)
       → IfOk r (λ v. string_bytes v.report ≡ refused_line name (unread_text reason)) → IfOk r IsReport
   unread_report (Ok v) reason right one shown =
-      let none = wrong_for Utf16 text value reason right in
-      subst (IsVerdict name text value d (string_bytes v.report)) (sym one) (reads_none (record { unreadable = none; reason = reason; right = right; shown = shown }))
+      let none = wrong_for encoding text value reason right in
+      subst (IsVerdict name encoding text value d (string_bytes v.report)) (sym one) (reads_none (record { unreadable = none; reason = reason; right = right; shown = shown }))
   unread_report (Err e) reason right one shown = tt

@@ -21,9 +21,18 @@ line_on (Cut lines last) n = line_in lines last n
 unfoldable pub line_of : List ℕ → ℕ → List ℕ
 line_of text n = line_on (lines_of text) n
 
--- the character to display: U+FFFD for control characters other than the tab, since they could control the terminal
+-- the code point is in one of the ranges
+abbrev pub is_in_ranges : List (ℕ × ℕ) → ℕ → Bool
+is_in_ranges ranges c = list_any (λ range. is_in_range range.0 range.1 c) ranges
+
+-- the characters that change the direction of those after them: Unicode's directional embeddings, overrides and isolates, with the characters that end them
+unfoldable pub directional : List (ℕ × ℕ)
+directional = (0x202A, 0x202E) ∷ (0x2066, 0x2069) ∷ []
+
+-- The character to display. It is U+FFFD for control characters other than the tab, since they could control the terminal, and for those that change the direction, since
+-- they could make a line look like another one.
 abbrev pub shown : ℕ → ℕ
-shown c = if c == 9 then 9 else (if is_control c then 0xFFFD else c)
+shown c = if c == 9 then 9 else (if is_control c then 0xFFFD else (if is_in_ranges directional c then 0xFFFD else c))
 
 -- The characters to which a terminal gives two columns, in ranges from a first to a last code point: East Asian wide and fullwidth characters, and emoji. These are whole
 -- blocks, after Unicode's property East_Asian_Width; terminals differ at single characters.
@@ -35,10 +44,6 @@ wide =
 -- The characters to which it gives none: combining marks, zero-width characters and variation selectors. These too are whole blocks, after Unicode's general categories.
 unfoldable pub zero_width : List (ℕ × ℕ)
 zero_width = (0x300, 0x36F) ∷ (0x1AB0, 0x1AFF) ∷ (0x1DC0, 0x1DFF) ∷ (0x200B, 0x200F) ∷ (0x20D0, 0x20FF) ∷ (0xFE00, 0xFE0F) ∷ (0xFE20, 0xFE2F) ∷ []
-
--- the code point is in one of the ranges
-abbrev pub is_in_ranges : List (ℕ × ℕ) → ℕ → Bool
-is_in_ranges ranges c = list_any (λ range. is_in_range range.0 range.1 c) ranges
 
 -- the number of columns of a character; a tab counts as one
 abbrev pub columns : ℕ → ℕ

@@ -5,7 +5,7 @@ use Rattle.serde_json.specs.Find.{as_str}
 use Rattle.lam_rules.specs.Texts.{Text, plain_text}
 use Rattle.lam_rules.specs.Types.{Typ}
 use Rattle.lam_rules.specs.declared.rules.Dialect.{Dialect}
-use Rattle.lam_text.specs.declared.units.Encoding.TheVariants.{Utf16}
+use Rattle.lam_text.specs.declared.units.Encoding.{Encoding}
 use Rattle.lam_query.specs.Derivations.{ContextEntry, Derivation}
 use Rattle.lam_query.specs.Steps.{Conclusion, last_conclusion}
 use Rattle.lam_session.specs.Derivations.{derivation_value}
@@ -96,15 +96,15 @@ refused_line name message = line (shown_line name ++ codes ": " ++ message)
 -- ---- reports
 
 -- The value is that of a readable derivation that is verified, and the line says so, with its context and the conclusion of its last step.
-pub record IsAccepted (name : Text) (text : List ℕ) (value : Data) (d : Dialect) (report : Text) : Type 0 where
-  pub sent : IsVerifiedValue text value d
+pub record IsAccepted (name : Text) (encoding : Encoding) (text : List ℕ) (value : Data) (d : Dialect) (report : Text) : Type 0 where
+  pub sent : IsVerifiedValue encoding text value d
   pub readable : IsReadable text sent.derivation
   pub shown : report ≡ accepted_line name text sent.derivation
 
 -- The value is that of a readable derivation that is not verified, and the line has the message of what is wrong with it first.
-pub record IsRefused (name : Text) (text : List ℕ) (value : Data) (d : Dialect) (report : Text) : Type 0 where
+pub record IsRefused (name : Text) (encoding : Encoding) (text : List ℕ) (value : Data) (d : Dialect) (report : Text) : Type 0 where
   pub derivation : Derivation
-  pub is_value : value ≡ derivation_value Utf16 text (Some derivation)
+  pub is_value : value ≡ derivation_value encoding text (Some derivation)
   pub readable : IsReadable text derivation
   pub not_verified : IsVerified text derivation d → ⊥
   pub fault : FirstFault
@@ -112,14 +112,14 @@ pub record IsRefused (name : Text) (text : List ℕ) (value : Data) (d : Dialect
   pub shown : report ≡ refused_line name (message fault)
 
 -- The value is that of no readable derivation, and the line says why it is not read.
-pub record IsUnreadable (name : Text) (text : List ℕ) (value : Data) (report : Text) : Type 0 where
-  pub unreadable : (derivation : Derivation) → IsReadable text derivation → value ≡ derivation_value Utf16 text (Some derivation) → ⊥
+pub record IsUnreadable (name : Text) (encoding : Encoding) (text : List ℕ) (value : Data) (report : Text) : Type 0 where
+  pub unreadable : (derivation : Derivation) → IsReadable text derivation → value ≡ derivation_value encoding text (Some derivation) → ⊥
   pub reason : Unread
-  pub right : IsWrongFor Utf16 text value reason
+  pub right : IsWrongFor encoding text value reason
   pub shown : report ≡ refused_line name (unread_text reason)
 
--- The report on a value that was sent as a derivation of a text under this name. It is counted unless it is accepted.
-pub data IsVerdict (name : Text) (text : List ℕ) (value : Data) (d : Dialect) (report : Text) : (count : ℕ) → Type 0 where
-  accepts : IsAccepted name text value d report → IsVerdict name text value d report 0
-  refuses : IsRefused name text value d report → IsVerdict name text value d report 1
-  reads_none : IsUnreadable name text value report → IsVerdict name text value d report 1
+-- The report on a value that was sent, with this position encoding, as a derivation of a text under this name. It is counted unless it is accepted.
+pub data IsVerdict (name : Text) (encoding : Encoding) (text : List ℕ) (value : Data) (d : Dialect) (report : Text) : (count : ℕ) → Type 0 where
+  accepts : IsAccepted name encoding text value d report → IsVerdict name encoding text value d report 0
+  refuses : IsRefused name encoding text value d report → IsVerdict name encoding text value d report 1
+  reads_none : IsUnreadable name encoding text value report → IsVerdict name encoding text value d report 1

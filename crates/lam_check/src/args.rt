@@ -3,7 +3,7 @@ use crate::forms::Form;
 use clap::error::ErrorKind;
 use clap::{Arg, ArgAction, ArgMatches, Command, Error};
 use lam_rules::Dialect;
-use lam_text::Position;
+use lam_text::{Encoding, Position};
 use std::alloc::{AllocError, Global};
 
 const NAME: &str = "lam_check";
@@ -12,6 +12,9 @@ static NAME_ALONE: [&str; 1] = [NAME];
 
 /// The accepted values of `--dialect`.
 static DIALECTS: [&str; 2] = ["1", "2"];
+
+/// The accepted values of `--position-encoding`.
+static ENCODINGS: [&str; 3] = ["utf-8", "utf-16", "utf-32"];
 
 /// The file name that means standard input.
 pub const INPUT: &str = "-";
@@ -22,8 +25,8 @@ const ABOUT: &str = "Checks files in the typed lambda calculus with records and 
     reports each error with its line and column.";
 
 const STATUSES: &str =
-    "Exit status: 0 if no file has an error, 1 if one has (with --why: if there is no \
-    derivation; with --verify: if one is not accepted), 2 on a usage error, 4 if a file cannot be read or \
+    "Exit status: 0 if no file has an error (with --why: if the derivation is shown; with \
+    --verify: if each derivation is accepted), 1 otherwise, 2 on a usage error, 4 if a file cannot be read or \
     the output cannot be written, 5 if memory runs out.";
 
 /// The parsed arguments.
@@ -31,6 +34,8 @@ const STATUSES: &str =
 pub struct Asked<'a> {
     pub dialect: Dialect,
     pub shown: Shown,
+    /// The unit of the columns in JSON.
+    pub encoding: Encoding,
     /// The file that the derivations are about, if given with `--of`.
     pub source: Option<&'a str>,
 }
@@ -75,6 +80,10 @@ pub fn read_args<'a>(
         Ok(shown) => shown,
         Err(text) => return Err(usage(alloc, text)),
     };
+    let encoding = match encoding_in(&matches) {
+        Ok(encoding) => encoding,
+        Err(text) => return Err(usage(alloc, text)),
+    };
     let source = matches.get_str("of");
     if source == Some(INPUT) {
         return Err(usage(alloc, "error: --of takes the name of a file\n"));
@@ -82,6 +91,7 @@ pub fn read_args<'a>(
     let asked = Asked {
         dialect: chosen(matches.get_str("dialect")),
         shown,
+        encoding,
         source,
     };
     let names = matches.get_strs("FILE").unwrap_or(INPUT_ALONE.as_slice());
@@ -113,7 +123,7 @@ fn what_is_shown(matches: &ArgMatches<'_>) -> Result<Shown, &'static str> {
         }
         return Ok(Shown::Faults);
     };
-    let Some(place) = place_of(word) else {
+    let Some(place) = position_of(word) else {
         return Err("error: --why takes a line and a column, both from 1, as in 3:14\n");
     };
     if matches.get_flag("json") {
@@ -133,12 +143,27 @@ fn form_of(matches: &ArgMatches<'_>) -> Form {
 }
 
 /// Parses `LINE:COLUMN`, both counted from 1, into a position.
-fn place_of(word: &str) -> Option<Position> {
+fn position_of(word: &str) -> Option<Position> {
     let (line, column) = word.split_once(':')?;
     Some(Position {
         line: line.parse::<u64>().ok()?.checked_sub(1)?,
         character: column.parse::<u64>().ok()?.checked_sub(1)?,
     })
+}
+
+/// Returns the unit of the columns in JSON.
+fn encoding_in(matches: &ArgMatches<'_>) -> Result<Encoding, &'static str> {
+    let Some(word) = matches.get_str("position-encoding") else {
+        return Ok(Encoding::Utf16);
+    };
+    if !matches.get_flag("json") && !matches.get_flag("verify") {
+        return Err("error: --position-encoding goes with --json or --verify\n");
+    }
+    match word {
+        "utf-8" => Ok(Encoding::Utf8),
+        "utf-32" => Ok(Encoding::Utf32),
+        _ => Ok(Encoding::Utf16),
+    }
 }
 
 /// The dialect that a value of `--dialect` names.
@@ -179,6 +204,7 @@ fn push_options<'a>(alloc: Global, options: &mut Vec<Arg<'a>>) -> Result<(), All
     options.push(json(alloc)?)?;
     options.push(verify(alloc)?)?;
     options.push(of(alloc)?)?;
+    options.push(position_encoding(alloc))?;
     options.push(files(alloc))?;
     Ok(())
 }
@@ -249,6 +275,16 @@ fn of<'a>(alloc: Global) -> Result<Arg<'a>, AllocError> {
         "The file with the text that the derivations are about, in place of the one that they name",
     );
     of.requires_arg("verify")
+}
+
+fn position_encoding<'a>(alloc: Global) -> Arg<'a> {
+    Arg::new(alloc, "position-encoding")
+        .long("position-encoding")
+        .value_name("ENCODING")
+        .value_parser(ENCODINGS.as_slice())
+        .help(
+            "The unit of columns in JSON, as the client and the server agreed on; utf-16 if not given",
+        )
 }
 
 fn files<'a>(alloc: Global) -> Arg<'a> {

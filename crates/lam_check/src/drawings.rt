@@ -154,7 +154,7 @@ impl Picture<'_> {
     {
         match self.form {
             Form::Text => {
-                push_blanks(out, 2 * depth)?;
+                push_indent(out, 2 * depth)?;
                 out.push_str(&claim_as(self.alloc, self.text, step, role)?)?;
                 out.push_str("  (")?;
                 out.push_str(rule_of(step))?;
@@ -247,7 +247,7 @@ fn premises_of(step: &Step) -> &[usize]
     }
 }
 
-fn push_blanks(out: &mut String, count: usize) -> Result<(), AllocError>
+fn push_indent(out: &mut String, count: usize) -> Result<(), AllocError>
     ensures { OnOk result (string_bytes out.new ≡ string_bytes out.old ++ replicate count 32) }
 {
     for i in 0..count {

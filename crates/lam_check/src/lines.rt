@@ -35,6 +35,9 @@ const ZERO_WIDTH: [(char, char); 7] = [
     ('\u{fe20}', '\u{fe2f}'),
 ];
 
+/// The characters that change the direction of those after them, likewise.
+const DIRECTIONAL: [(char, char); 2] = [('\u{202a}', '\u{202e}'), ('\u{2066}', '\u{2069}')];
+
 /// Returns the content of a line without its line ending, by zero-based number; empty if there is no such line.
 pub fn line_of(doc: &Doc, number: u64) -> &str
     ensures { result.now ≡ line_of doc.now.text number }
@@ -52,6 +55,7 @@ pub fn line_of(doc: &Doc, number: u64) -> &str
 }
 
 /// The character to display for `c`.
+#[tactic(auto, unfolding(crate::specs::Lines::directional))]
 fn shown(c: char) -> char
     ensures { result ≡ shown c }
 {
@@ -59,6 +63,9 @@ fn shown(c: char) -> char
         return c;
     }
     if c.is_control() {
+        return '\u{fffd}';
+    }
+    if is_in_ranges(&DIRECTIONAL, c) {
         return '\u{fffd}';
     }
     c
@@ -103,7 +110,8 @@ fn blank(c: char) -> &'static str
     }
 }
 
-/// Returns a line for display: control characters other than the tab become U+FFFD.
+/// Returns a line for display: control characters other than the tab, and characters that change the direction of the text, become
+/// U+FFFD.
 pub fn shown_line(alloc: Global, line: &str) -> Result<String, AllocError>
     ensures { IfOk result (λ shown. string_bytes shown ≡ shown_line line.now) }
 {

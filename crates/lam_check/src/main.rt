@@ -1,7 +1,9 @@
 //! The command-line checker: prints the diagnostics, types and derivations of texts without an editor, and verifies derivations.
 //!
-//! `reports::report` produces the diagnostics of a text, and its contract defines that report. Nothing here deals with LSP
-//! messages, sessions or clients.
+//! The contracts of these functions say what is printed: `reports::report` for diagnostics, `types::types_text` for types,
+//! `drawings::drawing` for derivations, `json::faults_json` and `json::why_json` for both as JSON, and `verdicts::verdict` for a
+//! derivation that is verified. What is in this file, in `args.rt`, `files.rt` and `sent.rt` has no contracts: it reads the arguments
+//! and the files, and prints. Nothing here deals with LSP messages or clients.
 #![tactic(auto)]
 
 mod absences;
@@ -178,11 +180,24 @@ fn check<R: AllocGlobal + Files + Input + Print + Eprint>(
             faults.max(tell_types(rt, asked.dialect, &text))
         }
         Shown::FaultsJson => {
-            let name = shown_name(name);
-            tell_checked(rt, faults_json(rt.alloc(), name, &text, asked.dialect))
+            let found = faults_json(
+                rt.alloc(),
+                asked.encoding,
+                shown_name(name),
+                &text,
+                asked.dialect,
+            );
+            tell_checked(rt, found)
         }
         Shown::DerivationJson(place) => {
-            let found = why_json(rt.alloc(), shown_name(name), &text, place, asked.dialect);
+            let found = why_json(
+                rt.alloc(),
+                asked.encoding,
+                shown_name(name),
+                &text,
+                place,
+                asked.dialect,
+            );
             tell_found(rt, name, &text, place, found)
         }
         Shown::Verdicts => tell_verdicts(rt, asked, shown_name(name), &text),

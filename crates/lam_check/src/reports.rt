@@ -17,7 +17,7 @@ use lam_session::values::message_of;
 use lam_text::{Doc, Encoding, Position};
 use std::alloc::{AllocError, Global};
 
-/// The diagnostics of a text as one report, and their number.
+/// What is printed about a text or a derivation, and the number of diagnostics, or 1 for a derivation that is not accepted.
 #[derive(Drop)]
 pub struct Checked {
     pub report: String,

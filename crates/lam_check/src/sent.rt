@@ -59,8 +59,12 @@ fn tell_verdict<R: AllocGlobal + Files + Input + Print + Eprint>(
     value: &Value,
 ) -> u8 {
     let (derivation, file) = sent_of(value);
-    let Some(source) = asked.source.or(readable(file)) else {
-        return tell_line(rt, name, "it does not name its file: give it with --of");
+    let Some(source) = asked.source.or(file_named(file)) else {
+        return tell_problem(
+            rt,
+            name,
+            "it names no file that can be read: give the file of its text with --of",
+        );
     };
     let text = match text_of(rt, rt.alloc(), source) {
         Ok(text) => text,
@@ -69,12 +73,19 @@ fn tell_verdict<R: AllocGlobal + Files + Input + Print + Eprint>(
     };
     tell_checked(
         rt,
-        verdict(rt.alloc(), name, &text, derivation, asked.dialect),
+        verdict(
+            rt.alloc(),
+            name,
+            asked.encoding,
+            &text,
+            derivation,
+            asked.dialect,
+        ),
     )
 }
 
 /// Returns the name of a file, unless it stands for standard input, which cannot be read again.
-fn readable(file: Option<&str>) -> Option<&str> {
+fn file_named(file: Option<&str>) -> Option<&str> {
     if file == Some(STANDARD_INPUT) || file == Some(INPUT) {
         return None;
     }
@@ -92,7 +103,7 @@ fn tell_no_json<R: AllocGlobal + Print + Eprint>(
         return report_out_of_memory(rt);
     }
     match no_json(rt.alloc(), fault, above) {
-        Ok(what) => tell_line(rt, name, &what),
+        Ok(what) => tell_problem(rt, name, &what),
         Err(_) => report_out_of_memory(rt),
     }
 }
@@ -115,7 +126,7 @@ fn without_position(message: &str) -> &str {
 }
 
 /// Prints a problem with a file, and returns the exit status.
-fn tell_line<R: AllocGlobal + Print + Eprint>(rt: &R, name: &str, what: &str) -> u8 {
+fn tell_problem<R: AllocGlobal + Print + Eprint>(rt: &R, name: &str, what: &str) -> u8 {
     let Ok(shown) = shown_line(rt.alloc(), name) else {
         return report_out_of_memory(rt);
     };

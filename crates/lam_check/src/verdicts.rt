@@ -30,18 +30,20 @@ pub fn sent_of(value: &Value) -> (&Value, Option<&str>)
     }
 }
 
-/// Verifies that a value is a readable derivation of a term of the text. The report says so, or names the first error.
+/// Verifies that a value is a readable derivation of a term of the text, with columns in the units of this encoding. The report says
+/// so, or names the first error.
 pub fn verdict(
     alloc: Global,
     name: &str,
+    encoding: Encoding,
     text: &str,
     value: &Value,
     dialect: Dialect,
 ) -> Result<Checked, AllocError>
-    ensures accepted { IfOk result (λ verdict. (verdict.count ≡ 0) ↔ ((sent : IsVerifiedValue text.now (view value.now) dialect) × IsReadable text.now sent.derivation)) }
-    ensures report { IfOk result (λ verdict. IsVerdict name.now text.now (view value.now) dialect (string_bytes verdict.report) verdict.count) }
+    ensures accepted { IfOk result (λ verdict. (verdict.count ≡ 0) ↔ ((sent : IsVerifiedValue encoding text.now (view value.now) dialect) × IsReadable text.now sent.derivation)) }
+    ensures report { IfOk result (λ verdict. IsVerdict name.now encoding text.now (view value.now) dialect (string_bytes verdict.report) verdict.count) }
 {
-    let doc = Doc::new(alloc, text, Encoding::Utf16)?;
+    let doc = Doc::new(alloc, text, encoding)?;
     let derivation = match derivation_in(alloc, &doc, value) {
         Ok(derivation) => derivation,
         Err(fault) => return refused(alloc, name, &unread_message(alloc, fault)?),

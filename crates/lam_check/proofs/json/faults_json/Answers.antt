@@ -10,6 +10,6 @@ returns c =
     record {
       faults = found;
       are_faults = c.in_ok-found.ensures.faults;
-      shown = c.in_ok-line_of.ensures c.in_ok-value.ensures.no_float ∙ ap json_line (rw (c.in_ok-doc.ensures.text, c.deref.ensures.value) at c.in_ok-value.ensures.value);
+      shown = c.in_ok-json_line.ensures c.in_ok-value.ensures.no_float ∙ ap json_line (rw (c.in_ok-doc.ensures.encoding, c.in_ok-doc.ensures.text, c.deref.ensures.value) at c.in_ok-value.ensures.value);
       counted = omega (arith, length-map c.in_ok-found.found.items fault_of);
     }

@@ -6,7 +6,7 @@ use Rattle.lam_check.proofs.json.faults_value.Goals as goal
 
 pub returns : goal.returns
 returns c =
-    let values = c.from.ensures ∙ ap array (rw c.requires.encoding at c.in_ok-values.ensures.values) in
+    let values = c.from.ensures ∙ ap array (c.in_ok-values.ensures.values) in
     let built = c.text.ensures _ (c.value.ensures _ _ c.new.ensures c.from.ensures) in
     record {
       value = c.finish.ensures _ (c.text.ensures _ (c.value.ensures _ _ c.new.ensures values));

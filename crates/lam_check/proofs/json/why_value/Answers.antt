@@ -7,6 +7,6 @@ pub returns : goal.returns
 returns c =
     let built = c.text.ensures _ (c.value.ensures _ _ c.new.ensures refl) in
     record {
-      value = c.finish.ensures _ (c.text.ensures _ (c.value.ensures _ _ c.new.ensures (rw c.requires.encoding at c.in_ok-value.ensures.value)));
+      value = c.finish.ensures _ (c.text.ensures _ (c.value.ensures _ _ c.new.ensures c.in_ok-value.ensures.value));
       no_float = IfOk-weaker c.finish.result _ _ (λ value told. ap has_float told ∙ rw c.in_ok-value.ensures.no_float refl) (c.finish.ensures _ built);
     }

@@ -24,13 +24,13 @@ inside c = omega (arith, c.loop-number-test.true, c.len-number-end.ensures, c.ar
 -- is that of the piece there
 there : (c : After-index-row)
     → IsRowAround c.args.text.now c.loop-number.start (placed 0 (rows_of c.args.self.now.rows.items)) (record { start = c.loop-number.start; number = c.loop-number.number })
-      (types_in c.args.self.now.types) c.args.self.now.dialect
+    (types_in c.args.self.now.types) c.args.self.now.dialect
 there c = around c.args.text.now c.args.self.now c.requires.of c.loop-number.number c.loop-number.start c.index-row.result.now c.index-row.ensures (inside c) c.loop-number.invariant.0
 
 -- and before it, names mean what the entries say
 here : (c : After-range) → c.loop-number.number < length c.args.self.now.rows.items
     → (e : AreEntriesAround c.args.text.now c.args.self.now (record { text = c.range.result; start = c.loop-number.start; number = c.loop-number.number }) c.loop-number.entries)
-      × (e.here.around.row ≡ row_after c.loop-number.start (row_of c.index-row.result.now))
+    × (e.here.around.row ≡ row_after c.loop-number.start (row_of c.index-row.result.now))
 here c lt =
     let short : length c.args.text.now < 2 ^ 64 = omega arith in
     entries_around c.args.text.now c.args.self.now c.requires.of c.loop-number.number c.loop-number.start c.index-row.result.now c.index-row.ensures lt c.loop-number.invariant.0
