@@ -3,10 +3,12 @@
 set -eu
 prefix=${1:-$HOME/.local}
 here=$(dirname "$0")
-"$here/bin/lam_server" --help > /dev/null || {
-  echo "install.sh: the program does not run here. It needs Linux on x86-64, and glibc @LIBC@ or later." >&2
-  exit 1
-}
+for program in lam_server lam_check; do
+  "$here/bin/$program" --help > /dev/null || {
+    echo "install.sh: $program does not run here. It needs Linux on x86-64, and glibc @LIBC@ or later." >&2
+    exit 1
+  }
+done
 mkdir -p "$prefix"
 prefix=$(cd "$prefix" && pwd)
 cd "$here"

@@ -1,8 +1,9 @@
 #!/usr/bin/env python3
 """try.py ROOT: installs both packages of dist/ into a Debian 12 that has Neovim and nothing else besides its base, and tries them there.
 
-Where the folder ROOT is not there yet debootstrap makes it, in a minute or two; the script runs as root. Of each package the program plays
-all of rows/, and Neovim, with a home that is empty, opens a file and has to show a diagnostic and a type.
+Where the folder ROOT is not there yet debootstrap makes it, in a minute or two; the script runs as root. Of each package the server plays
+all of rows/, the checker does what rows/check.py has it do, and Neovim, with a home that is empty, opens a file and has to show a
+diagnostic and a type.
 """
 
 import glob
@@ -39,16 +40,21 @@ def main():
         bare = ["env", "-i", "-C", "/try", "HOME=/try", "PATH=/usr/local/bin:/usr/sbin:/usr/bin:/sbin:/bin", "LANG=C.UTF-8", "TERM=dumb"]
         return subprocess.run(["chroot", root, *bare, *words], stdout=subprocess.PIPE, encoding="utf-8", check=True, timeout=300).stdout
 
-    def tried(kind, program):
-        """Whether the program at this path does all that it should."""
-        with tempfile.TemporaryDirectory() as room:
-            with open(f"{room}/lam_server", "w", encoding="utf-8") as it:
-                it.write(f'#!/bin/sh\nexec chroot "{root}" {program} "$@"\n')
-            os.chmod(f"{room}/lam_server", 0o755)
-            rows = subprocess.run([sys.executable, f"{HERE}/../rows/play.py", "--program", f"{room}/lam_server"], check=False).returncode
+    def plays(script, program):
+        """Whether what the script has the program do is right. It runs in the folder of the root that the script is in."""
+        with tempfile.TemporaryDirectory(dir=f"{root}/try") as room:
+            path = f"{room}/{os.path.basename(program)}"
+            with open(path, "w", encoding="utf-8") as it:
+                it.write(f'#!/bin/sh\nexec chroot "{root}" env -C "${{PWD#{root}}}/" {program} "$@"\n')
+            os.chmod(path, 0o755)
+            return not subprocess.run([sys.executable, f"{HERE}/../rows/{script}", "--program", path], cwd=room, env={**os.environ, "TMPDIR": room}, check=False).returncode
+
+    def tried(kind, folder):
+        """Whether the programs in this folder do all that they should."""
+        right = [plays("play.py", f"{folder}/lam_server"), plays("check.py", f"{folder}/lam_check")]
         seen = inside("nvim", "--headless", "a.fsub", "-c", "luafile look.lua")
         print(f"{kind}: Neovim shows {'what it should' if seen == SEEN else seen}", flush=True)
-        return rows == 0 and seen == SEEN
+        return all(right) and seen == SEEN
 
     shutil.rmtree(f"{root}/try", ignore_errors=True)
     os.makedirs(f"{root}/try")
@@ -59,12 +65,12 @@ def main():
     shutil.copy(tar, f"{root}/try/moorbasket.tar.gz")
     shutil.copy(deb, f"{root}/try/moorbasket.deb")
     print(inside("dpkg", "-i", "moorbasket.deb"), end="")
-    right = [tried("the Debian package", "/usr/bin/lam_server")]
+    right = [tried("the Debian package", "/usr/bin")]
     inside("dpkg", "-P", "moorbasket")
     inside("tar", "xzf", "moorbasket.tar.gz")
     print(inside("sh", "-c", "moorbasket-*/install.sh /usr/local"), end="")
-    right.append(tried("the tar file", "/usr/local/bin/lam_server"))
-    inside("rm", "-r", "/usr/local/share/nvim", "/usr/local/bin/lam_server")
+    right.append(tried("the tar file", "/usr/local/bin"))
+    inside("rm", "-r", "/usr/local/share/nvim", "/usr/local/bin/lam_server", "/usr/local/bin/lam_check")
     return 0 if all(right) else 1
 
 
