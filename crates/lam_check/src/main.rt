@@ -179,16 +179,7 @@ fn check<R: AllocGlobal + Files + Input + Print + Eprint>(
             let faults = tell_faults(rt, asked.dialect, name, &text, paint);
             faults.max(tell_types(rt, asked.dialect, &text))
         }
-        Shown::FaultsJson => {
-            let found = faults_json(
-                rt.alloc(),
-                asked.encoding,
-                shown_name(name),
-                &text,
-                asked.dialect,
-            );
-            tell_checked(rt, found)
-        }
+        Shown::FaultsJson => tell_faults_json(rt, asked, shown_name(name), &text),
         Shown::DerivationJson(place) => {
             let found = why_json(
                 rt.alloc(),
@@ -219,6 +210,19 @@ fn tell_faults<R: AllocGlobal + Print + Eprint>(
     tell_checked(
         rt,
         report(rt.alloc(), shown_name(name), text, dialect, paint),
+    )
+}
+
+/// Prints the diagnostics of a text as JSON, and returns the exit status for it.
+fn tell_faults_json<R: AllocGlobal + Print + Eprint>(
+    rt: &R,
+    asked: Asked,
+    name: &str,
+    text: &str,
+) -> u8 {
+    tell_checked(
+        rt,
+        faults_json(rt.alloc(), asked.encoding, name, text, asked.dialect),
     )
 }
 
