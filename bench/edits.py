@@ -530,7 +530,7 @@ def main():
     words = argparse.ArgumentParser(description=__doc__)
     words.add_argument("programs", metavar="PROGRAM", nargs="*", help="a program to play against (else those that the gate built)")
     words.add_argument("--checker", default=CHECKER, help="what verifies derivations (else what the gate built)")
-    words.add_argument("--count", type=int, default=2000, help="how many edits are made (else 2000)")
+    words.add_argument("--count", type=int, default=7500, help="how many edits are made (else 7500)")
     words.add_argument("--seed", type=int, default=7, help="what the random numbers are made of (else 7)")
     words.add_argument("--apart", type=int, default=APART, help=f"after one edit in so many each question has a process of its own (else {APART})")
     given = words.parse_args()

@@ -311,9 +311,9 @@ def arrows(count, last):
     return "Nat->" * count + last
 
 
-def records(count, last):
+def records(count, last, label="a"):
     """So many records with one field, around this type."""
-    return "{a:" * count + last + "}" * count
+    return f"{{{label}:" * count + last + "}" * count
 
 
 def named(term, rule, ty):
@@ -428,6 +428,7 @@ CASES = [
     Case("colours on a terminal", ["a"], {"a": "x"}, "a:1:1: \x1b[1;31merror[E1]\x1b[0m: unbound name\nx\n\x1b[1;31m^\x1b[0m\n", 1, painted={}),
     Case("no colours where NO_COLOR is set", ["a"], {"a": "x"}, "a:1:1: error[E1]: unbound name\nx\n^\n", 1, painted={"NO_COLOR": "1"}),
     Case("colours where NO_COLOR is empty", ["a"], {"a": "x"}, "a:1:1: \x1b[1;31merror[E1]\x1b[0m: unbound name\nx\n\x1b[1;31m^\x1b[0m\n", 1, painted={"NO_COLOR": ""}),
+    Case("no colours where NO_COLOR is not UTF-8", ["a"], {"a": "x"}, "a:1:1: error[E1]: unbound name\nx\n^\n", 1, painted={"NO_COLOR": "\udcff"}),
     Case("characters that turn the direction of a line", ["a"], {"a": "/* \u202e\u2066 */ x"}, f"a:1:10: error[E1]: unbound name\n/* \ufffd\ufffd */ x\n{' ' * 9}^\n", 1),
     Case("a NUL", ["a"], {"a": "a = 0;\0"}, "a:1:7: error[B1]: character not allowed\na = 0;\ufffd\n      ^\n", 1),
     Case("types", ["--types", "a"], {"a": CALL + "P = {b:Bool, a:Nat}; n : P;"}, "point : {name:Bool, x:Nat}\nnext : {x:Nat}->Nat\nNat\nP :: {a:Nat, b:Bool}\nn : {a:Nat, b:Bool}\n", 0),
@@ -736,6 +737,13 @@ FRONT = "".join(f"x{n} = {'true' if n % 2 else '0'}; " for n in range(199))
 DEEP_ARROWS = f"T = {arrows(500, 'Nat')}; U = {arrows(500, 'Top')}; x : {arrows(500, 'T')}; x as {arrows(500, 'U')}"
 DEEP_RECORDS = f"L = {records(400, 'Bool')}; M = {records(400, 'L')}; U = {records(400, 'Nat')}; V = {records(400, 'U')}; x : {records(200, 'M')}; x as {records(200, 'V')}"
 
+# A derivation of 83 MB, so larger than any text.
+LABEL = "a" * 100
+LONG_RECORDS = (
+    f"L = {records(300, 'Nat', LABEL)}; M = {records(300, 'L', LABEL)}; U = {records(300, 'Top', LABEL)}; V = {records(300, 'U', LABEL)};"
+    f" x : {records(300, 'M', LABEL)}; x as {records(300, 'V', LABEL)}"
+)
+
 
 def fields(numbers, each):
     """Fields with these numbers in their labels, each followed by this."""
@@ -784,6 +792,7 @@ DERIVED = [
     ("1", DEEP_ARROWS, DEEP_ARROWS.index("as"), f"x:{arrows(1000, 'Nat')} |- x as {arrows(500, 'U')} : {arrows(1000, 'Top')}"),
     ("2", DEEP_RECORDS, DEEP_RECORDS.index("as"), f"x:{records(1000, 'Bool')} |- x as {records(200, 'V')} : {records(1000, 'Nat')}"),
     ("1", DEEP_RECORDS, DEEP_RECORDS.index("as"), None),
+    ("1", LONG_RECORDS, LONG_RECORDS.index("as {"), f"x:{records(900, 'Nat', LABEL)} |- x as {records(300, 'V', LABEL)} : {records(900, 'Top', LABEL)}"),
 ]
 
 

@@ -15,7 +15,7 @@ use Rattle.lam_query.specs.declared.answers.Step.TheVariants as rust
 use Rattle.lam_session.specs.Derivations.{derivation_value}
 use Rattle.lam_query.specs.FirstFaults.{IsFirstFault}
 use Rattle.lam_query.specs.Verified.{IsVerified}
-use Rattle.lam_check.specs.Readable.{IsReadable, IsReadableConclusion}
+use Rattle.lam_check.specs.Readable.{HasReadableTypes, IsReadable, IsReadableConclusion}
 use Rattle.lam_check.specs.Verdicts.{accepted_line, refused_line, message, unread_text, IsVerdict, accepts, refuses, reads_none}
 use Rattle.lam_check.specs.Unreadable.{IsWrongFor}
 use Rattle.lam_check.specs.Verified.{IsVerifiedValue}
@@ -24,6 +24,7 @@ use Rattle.lam_check.specs.declared.read_derivations.Unread.{Unread}
 use Rattle.lam_check.specs.declared.reports.Checked.{Checked}
 use Rattle.lam_check.proofs.SentValues.{one_readable}
 use Rattle.lam_check.proofs.Unreadable.{wrong_for}
+use Rattle.lam_check.proofs.VerifiedRanges.{verified_readable}
 
 -- the steps of a readable derivation
 pub steps_stand : (text : List ℕ) (steps : List RustStep) → All (λ s. IsReadableConclusion text s.conclusion) (map step_of steps) → All (StepStandsIn text) steps
@@ -41,14 +42,17 @@ pub in_text : (P : Encoding → List ℕ → Type 0) {own encoding : Encoding} {
 in_text P {encoding = encoding} {there = there} like same h = subst (P encoding) same (subst (λ e. P e there) like h)
 
 module _ (encoding : Encoding) (text : List ℕ) (value : Data) (d : Dialect) where
-  -- the value is that of a readable derivation that is verified
+  -- the value is that of a verified derivation with readable types
   abbrev pub IsProof : Type 0
-  IsProof = (sent : IsVerifiedValue encoding text value d) × IsReadable text sent.derivation
+  IsProof = (sent : IsVerifiedValue encoding text value d) × HasReadableTypes sent.derivation
+
+  pub proof_readable : IsUtf8 text → (proof : IsProof) → IsReadable text proof.0.derivation
+  proof_readable utf8 proof = verified_readable text proof.0.derivation d utf8 proof.0.verified proof.1
 
   -- if a readable derivation of the value is not verified, none is: the value has no other one
   pub no_proof : (x : Derivation) → IsUtf8 text → value ≡ derivation_value encoding text (Some x) → IsReadable text x → (IsVerified text x d → ⊥) → IsProof → ⊥
   no_proof x utf8 is readable not_verified proof =
-      let same = one_readable encoding text utf8 proof.0.derivation x proof.1 readable (sym proof.0.is_value ∙ is) in
+      let same = one_readable encoding text utf8 proof.0.derivation x (proof_readable utf8 proof) readable (sym proof.0.is_value ∙ is) in
       not_verified (subst (λ y. IsVerified text y d) same proof.0.verified)
 
   pub none_counted : (r : Result Checked AllocError) → IsProof → IfOk r (λ v. v.count ≡ 0) → IfOk r (λ v. (v.count ≡ 0) ↔ IsProof)
@@ -63,9 +67,10 @@ module _ (name : Text) (encoding : Encoding) (text : List ℕ) (value : Data) (d
   abbrev IsReport : Checked → Type 0
   IsReport v = IsVerdict name encoding text value d (string_bytes v.report) v.count
 
-  pub accepted_report : (r : Result Checked AllocError) (proof : IsProof encoding text value d) → IfOk r (λ v. v.count ≡ 0) → IfOk r (λ v. string_bytes v.report ≡ accepted_line name text proof.0.derivation) → IfOk r IsReport
-  accepted_report (Ok v) proof none shown = subst (IsVerdict name encoding text value d (string_bytes v.report)) (sym none) (accepts (record { sent = proof.0; readable = proof.1; shown = shown }))
-  accepted_report (Err e) proof none shown = tt
+  pub accepted_report : (r : Result Checked AllocError) (sent : IsVerifiedValue encoding text value d) → IsReadable text sent.derivation → IfOk r (λ v. v.count ≡ 0)
+      → IfOk r (λ v. string_bytes v.report ≡ accepted_line name text sent.derivation) → IfOk r IsReport
+  accepted_report (Ok v) sent readable none shown = subst (IsVerdict name encoding text value d (string_bytes v.report)) (sym none) (accepts (record { sent = sent; readable = readable; shown = shown }))
+  accepted_report (Err e) sent readable none shown = tt
 
   pub refused_report : (r : Result Checked AllocError) (x : Derivation) → value ≡ derivation_value encoding text (Some x) → IsReadable text x → (IsVerified text x d → ⊥) → (fault : FirstFault) → IsFirstFault text x d fault
       → IfOk r (λ v. v.count ≡ 1) → IfOk r (λ v. string_bytes v.report ≡ refused_line name (message fault)) → IfOk r IsReport

@@ -7,4 +7,6 @@ pub mod PlainTypes
 pub mod ReadValues
 pub mod Unreadable
 pub mod SentValues
+pub mod LanguageTypes
+pub mod VerifiedRanges
 pub mod Accepting

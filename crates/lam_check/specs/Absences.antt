@@ -10,7 +10,7 @@ use Rattle.lam_check.specs.declared.absences.Absence.TheVariants as absences
 abbrev pub HasLine : List ℕ → ℕ → Type 0
 HasLine text line = HasPlace text (record { line = line; character = 0 })
 
--- The text has no such line; it has the line, but no such column; or it has the position, but no type is shown there.
+-- The text has no such line; it has the line, but no such column; or it has the position, and if it has no derivation there, then for want of a type.
 abbrev pub IsAbsence : List ℕ → Position → Absence → Type 0
 IsAbsence text place absences.Line = HasLine text place.line → ⊥
 IsAbsence text place absences.Column = HasLine text place.line × (HasPlace text place → ⊥)

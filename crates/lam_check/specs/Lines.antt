@@ -29,19 +29,19 @@ is_in_ranges ranges c = list_any (λ range. is_in_range range.0 range.1 c) range
 unfoldable pub directional : List (ℕ × ℕ)
 directional = (0x202A, 0x202E) ∷ (0x2066, 0x2069) ∷ []
 
--- The character to display. It is U+FFFD for control characters other than the tab, since they could control the terminal, and for those that change the direction, since
--- they could make a line look like another one.
+-- The character to display. It is U+FFFD for control characters other than the tab, since they could control the terminal, and for these directional ones, since they could
+-- make a line look like another one.
 abbrev pub shown : ℕ → ℕ
 shown c = if c == 9 then 9 else (if is_control c then 0xFFFD else (if is_in_ranges directional c then 0xFFFD else c))
 
--- The characters to which a terminal gives two columns, in ranges from a first to a last code point: East Asian wide and fullwidth characters, and emoji. These are whole
--- blocks, after Unicode's property East_Asian_Width; terminals differ at single characters.
+-- The characters to which a terminal gives two columns, in ranges from a first to a last code point: East Asian wide and fullwidth characters, and emoji. They are
+-- taken from Unicode's property East_Asian_Width, mostly in whole blocks; terminals differ at single characters.
 unfoldable pub wide : List (ℕ × ℕ)
 wide =
     (0x1100, 0x115F) ∷ (0x2E80, 0x303E) ∷ (0x3041, 0xA4CF) ∷ (0xA960, 0xA97F) ∷ (0xAC00, 0xD7A3) ∷ (0xF900, 0xFAFF) ∷ (0xFE30, 0xFE6F) ∷ (0xFF01, 0xFF60) ∷ (0xFFE0, 0xFFE6)
     ∷ (0x1F300, 0x1F64F) ∷ (0x1F680, 0x1F6FF) ∷ (0x1F900, 0x1F9FF) ∷ (0x1FA70, 0x1FAFF) ∷ (0x20000, 0x3FFFD) ∷ []
 
--- The characters to which it gives none: combining marks, zero-width characters and variation selectors. These too are whole blocks, after Unicode's general categories.
+-- The characters to which it gives none: combining marks, zero-width characters and variation selectors. These are taken from Unicode's general categories, mostly in whole blocks.
 unfoldable pub zero_width : List (ℕ × ℕ)
 zero_width = (0x300, 0x36F) ∷ (0x1AB0, 0x1AFF) ∷ (0x1DC0, 0x1DFF) ∷ (0x200B, 0x200F) ∷ (0x20D0, 0x20FF) ∷ (0xFE00, 0xFE0F) ∷ (0xFE20, 0xFE2F) ∷ []
 

@@ -7,7 +7,10 @@ use std::rt::Files;
 use thiserror::Error;
 
 /// The maximum size of a text in bytes: 64 MiB.
-const LIMIT: u64 = 1 << 26;
+pub const TEXT_LIMIT: u64 = 1 << 26;
+
+/// For a file that may have any size.
+pub const NO_LIMIT: u64 = u64::MAX;
 
 /// Why a file could not be read as text.
 #[derive(Debug, Drop, Error)]
@@ -22,24 +25,29 @@ pub enum ReadFault {
     Memory,
 }
 
-/// Reads a file, or standard input if the name is `-`.
-pub fn text_of<R: Files + Input>(rt: &R, alloc: Global, name: &str) -> Result<String, ReadFault> {
+/// Reads a file of at most this many bytes, or standard input if the name is `-`.
+pub fn text_of<R: Files + Input>(
+    rt: &R,
+    alloc: Global,
+    name: &str,
+    limit: u64,
+) -> Result<String, ReadFault> {
     let bytes = if name == INPUT {
-        bytes_of(alloc, rt.reader())?
+        bytes_of(alloc, rt.reader(), limit)?
     } else {
-        bytes_of(alloc, fs::open(rt, name).map_err(device_fault)?)?
+        bytes_of(alloc, fs::open(rt, name).map_err(device_fault)?, limit)?
     };
-    if bytes.len() as u64 > LIMIT {
+    if bytes.len() as u64 > limit {
         return Err(ReadFault::TooLarge);
     }
     String::from_utf8(bytes).map_err(|error| ReadFault::NotUtf8(error.utf8_error().valid_up_to()))
 }
 
-/// Reads all bytes, but at most one more than a text may have.
-fn bytes_of<R: Read + Drop>(alloc: Global, reader: R) -> Result<Vec<u8>, ReadFault> {
+/// Reads all bytes, but at most one more than the limit.
+fn bytes_of<R: Read + Drop>(alloc: Global, reader: R, limit: u64) -> Result<Vec<u8>, ReadFault> {
     let mut bytes = Vec::new(alloc);
     reader
-        .take(LIMIT + 1)
+        .take(limit.saturating_add(1))
         .read_to_end(&mut bytes)
         .map_err(device_fault)?;
     Ok(bytes)

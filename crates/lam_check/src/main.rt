@@ -27,7 +27,7 @@ mod verdicts;
 use absences::absence_at;
 use args::{ArgsFault, Asked, Shown, read_args};
 use drawings::drawing;
-use files::{ReadFault, text_of};
+use files::{NO_LIMIT, ReadFault, TEXT_LIMIT, text_of};
 use json::{faults_json, why_json};
 use lam_rules::Dialect;
 use lam_text::Position;
@@ -36,7 +36,7 @@ use paint::Paint;
 use reports::{Checked, report};
 use sent::tell_verdicts;
 use std::alloc::AllocError;
-use std::env::{self, Env};
+use std::env::{self, Env, VarError};
 use std::fmt::Display;
 use std::io::{self, ErrorKind, IsTerminal};
 use std::process::ExitCode;
@@ -90,8 +90,9 @@ fn paint_for<R: AllocGlobal + Env>(rt: &R, terminal: bool) -> Paint {
         return Paint::Plain;
     }
     match env::var(rt, "NO_COLOR") {
-        Ok(value) if !value.is_empty() => Paint::Plain,
-        _ => Paint::Colours,
+        Ok(value) if value.is_empty() => Paint::Colours,
+        Err(VarError::NotPresent) => Paint::Colours,
+        _ => Paint::Plain,
     }
 }
 
@@ -168,7 +169,7 @@ fn check<R: AllocGlobal + Files + Input + Print + Eprint>(
     name: &str,
     paint: Paint,
 ) -> u8 {
-    let text = match text_of(rt, rt.alloc(), name) {
+    let text = match text_of(rt, rt.alloc(), name, limit_for(asked.shown)) {
         Ok(text) => text,
         Err(ReadFault::Memory) => return report_out_of_memory(rt),
         Err(fault) => return tell_of(rt, name, &fault, DEVICE),
@@ -196,6 +197,14 @@ fn check<R: AllocGlobal + Files + Input + Print + Eprint>(
             let found = drawing(rt.alloc(), &text, place, asked.dialect, form);
             tell_found(rt, name, &text, place, found)
         }
+    }
+}
+
+/// Returns the maximum size of a file: a derivation may be larger than any text.
+fn limit_for(shown: Shown) -> u64 {
+    match shown {
+        Shown::Verdicts => NO_LIMIT,
+        _ => TEXT_LIMIT,
     }
 }
 

@@ -1,8 +1,10 @@
 //! Derivations read back from JSON values.
-ghost use Rattle.std.specs.Prelude.{◌≡◌, ◌≢◌, ℕ, List, Option, map, All, IfOk, IfSome, IfNone};
+ghost use Rattle.std.specs.Prelude.{◌≡◌, ◌≢◌, ◌≤◌, ℕ, List, Option, map, All, IfOk, IfSome, IfNone};
 ghost use Rattle.std.specs.Str.{IsUtf8};
 ghost use Rattle.serde_json.specs.Data.{null, string};
 ghost use Rattle.serde_json.specs.View.{view};
+ghost use Rattle.lam_rules.specs.ReadableLabels.{HasReadableLabels};
+ghost use Rattle.lam_rules.specs.Types.{Typ, nodes};
 ghost use Rattle.lam_rules.specs.TypeViews.{typ_of};
 ghost use Rattle.lam_rules.specs.TermViews.{written_of};
 ghost use Rattle.lam_rules.specs.Texts.{plain_text};
@@ -13,7 +15,7 @@ ghost use Rattle.lam_query.specs.Views.{derivation_of, entry_of, step_of};
 ghost use Rattle.lam_query.specs.Derivations.{Derivation as DerivationTree};
 ghost use Rattle.lam_session.specs.Derivations.{derivation_value, entry_value, premises_value, step_value, type_value};
 ghost use Rattle.lam_session.specs.Ranges.{position_value, range_value};
-ghost use Rattle.lam_check.specs.Readable.{IsReadable, IsReadableConclusion, IsReadableOffset, IsReadableSpan, IsReadableType};
+ghost use Rattle.lam_check.specs.Readable.{HasNamesAsLabels, IsReadable, IsReadableConclusion, IsReadableOffset, IsReadableSpan, IsReadableType, depth};
 ghost use Rattle.lam_check.specs.Unreadable.{AreNoPremises, IsReadableEntry, IsFirstWrong, IsNoReadableRange, IsNoSubRule, IsNoReadableType, IsNoTypeRule, IsReadableStep, IsWrongEntry, IsWrongFor, IsWrongStep, IsWrongSubtyping, IsWrongTyping, subtyping_members, typing_members};
 ghost use Rattle.lam_check.specs.declared.read_derivations.Unread.{Unread};
 ghost use Rattle.lam_check.specs.declared.read_derivations.Unread.TheVariants.{Memory};
@@ -94,6 +96,12 @@ pub fn derivation_in(alloc: Global, doc: &Doc, value: &Value) -> Result<Derivati
 pub fn one_derivation(text: &str)
     ensures { (encoding : Encoding) (one other : DerivationTree) → IsReadable text.now one → IsReadable text.now other
         → derivation_value encoding text.now (Some one) ≡ derivation_value encoding text.now (Some other) → one ≡ other }
+{}
+
+/// A type whose labels are names of the language is readable unless it has more than 4,096 levels, and so more than 4,096 nodes.
+pub fn language_types()
+    ensures labels { (t : Typ) → HasNamesAsLabels t → HasReadableLabels t }
+    ensures levels { (t : Typ) → depth t ≤ nodes t }
 {}
 
 fn context_in(alloc: Global, values: &[Value]) -> Result<Vec<(String, Option<Ty>)>, Unread>

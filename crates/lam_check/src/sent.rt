@@ -1,6 +1,6 @@
 //! Files of derivations to verify: each is read along with the text that it is about.
 use crate::args::{Asked, INPUT};
-use crate::files::{ReadFault, text_of};
+use crate::files::{ReadFault, TEXT_LIMIT, text_of};
 use crate::lines::shown_line;
 use crate::verdicts::{sent_of, verdict};
 use crate::{
@@ -66,7 +66,7 @@ fn tell_verdict<R: AllocGlobal + Files + Input + Print + Eprint>(
             "it names no file that can be read: give the file of its text with --of",
         );
     };
-    let text = match text_of(rt, rt.alloc(), source) {
+    let text = match text_of(rt, rt.alloc(), source, TEXT_LIMIT) {
         Ok(text) => text,
         Err(ReadFault::Memory) => return report_out_of_memory(rt),
         Err(fault) => return tell_of(rt, source, &fault, DEVICE),

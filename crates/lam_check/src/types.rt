@@ -8,8 +8,8 @@ use lam_query::command_types;
 use lam_rules::Dialect;
 use std::alloc::{AllocError, Global};
 
-/// Returns a line for each command of a text that has a type: the name that it binds and its least type, or the type alone. There
-/// are no lines if the text has a type of more than 4,096 nodes.
+/// Returns a line for each command of a text that has a type: the least type of its term, or the type that it declares or
+/// abbreviates, after the name that it binds, if any. There are no lines if the text has a type of more than 4,096 nodes.
 pub fn types_text(alloc: Global, text: &str, dialect: Dialect) -> Result<String, AllocError>
     ensures { IfOk result (λ lines. AreTypes text.now (string_bytes lines) dialect) }
 {

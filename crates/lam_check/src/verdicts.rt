@@ -2,7 +2,7 @@
 ghost use Rattle.std.specs.Prelude.{◌≡◌, ◌↔◌, ◌++◌, All, IfOk, OnOk, flat_map, map, option_map, string_bytes};
 ghost use Rattle.serde_json.specs.View.{view};
 ghost use Rattle.lam_query.specs.Views.{StepStandsIn, derivation_of, entry_of, step_of};
-ghost use Rattle.lam_check.specs.Readable.{IsReadable};
+ghost use Rattle.lam_check.specs.Readable.{HasReadableTypes};
 ghost use Rattle.lam_check.specs.Verdicts.{IsSent, IsVerdict, accepted_line, claim_in, context_text, entry_text, message, next_entry, refused_line, unread_text};
 ghost use Rattle.lam_check.specs.Verified.{IsVerifiedValue};
 ghost use Rattle.lam_check.specs.declared.read_derivations.Unread.TheVariants.{Memory};
@@ -30,8 +30,8 @@ pub fn sent_of(value: &Value) -> (&Value, Option<&str>)
     }
 }
 
-/// Verifies that a value is a readable derivation of a term of the text, with columns in the units of this encoding. The report says
-/// so, or names the first error.
+/// Verifies that a value is a derivation of a term of the text, with columns in the units of this encoding and with readable types.
+/// The report says so, or names the first error.
 pub fn verdict(
     alloc: Global,
     name: &str,
@@ -40,7 +40,7 @@ pub fn verdict(
     value: &Value,
     dialect: Dialect,
 ) -> Result<Checked, AllocError>
-    ensures accepted { IfOk result (λ verdict. (verdict.count ≡ 0) ↔ ((sent : IsVerifiedValue encoding text.now (view value.now) dialect) × IsReadable text.now sent.derivation)) }
+    ensures accepted { IfOk result (λ verdict. (verdict.count ≡ 0) ↔ ((sent : IsVerifiedValue encoding text.now (view value.now) dialect) × HasReadableTypes sent.derivation)) }
     ensures report { IfOk result (λ verdict. IsVerdict name.now encoding text.now (view value.now) dialect (string_bytes verdict.report) verdict.count) }
 {
     let doc = Doc::new(alloc, text, encoding)?;

@@ -23,7 +23,7 @@ own_failures call made = if nat_lt 0 call && made == call then 1 else 0
 abbrev pub failures_with : {D : Type 0} → (D → ℕ) → Failing D → ℕ
 failures_with failed s = min (failed s.inner + own_failures s.call s.made) (2 ^ 64 - 1)
 
--- A call other than the failing one does to the wrapped device what it would do without the wrapper, and is counted.
+-- A call other than the failing one does to the wrapped device what a call of it may do, and is counted.
 pub record Passes {D : Type 0} (Does : D → D → Type 0) (old new : Failing D) : Type 0 where
   pub other : old.made + 1 ≢ old.call
   pub does : Does old.inner new.inner

@@ -25,6 +25,7 @@ pub mod TextPlaces
 pub mod MentionPlaces
 pub mod FaultPlaces
 pub mod StepPlaces
+pub mod VerifiedSpans
 pub mod OneAnswer
 pub mod Innermost
 pub mod PieceLaws

@@ -49,7 +49,7 @@ mutual
   in_typings Q t h place [] (typing_first p ps) = (in_typing Q t h place p, in_typings Q t h place [] ps)
   in_typings Q t h place (term ∷ terms) (typing_first p ps) = (in_typing Q t h term p, in_typings Q t h place terms ps)
 
-abbrev InStep : (Span → Type 0) → Step → Type 0
+abbrev pub InStep : (Span → Type 0) → Step → Type 0
 InStep Q s = InConclusion Q s.conclusion
 
 abbrev pub InSteps : (Span → Type 0) → List Step → Type 0
@@ -65,6 +65,10 @@ mutual
   in_steps_of_each Q n (proof_first p ps) h =
       every_append (InStep Q) (steps_of n p) (steps_of_each (n + steps_before p + 1) ps) (in_steps Q n p h.0) (in_steps_of_each Q (n + steps_before p + 1) ps h.1)
 
+-- the spans of a proof's steps are among those of the table's rows
+pub proof_steps : (Q : Span → Type 0) (t : Table) (place : ℕ) (p : TypingTree) → ((n : ℕ) → Q (place_row_numbered t n).span) → InSteps Q (steps_of 0 (row_proof t place p))
+proof_steps Q t place p h = in_steps Q 0 (row_proof t place p) (in_typing Q t h place p)
+
 step_seen : (text : List ℕ) (step : RustStep) → InConclusion (IsSpanOfText text) (step_of step).conclusion → StepStandsIn text step
 step_seen text (rust.Typing rule span ty premises) h = h
 step_seen text (rust.Sub rule lower upper premises) h = tt
@@ -76,5 +80,4 @@ steps_seen text (x ∷ xs) h = (step_seen text x h.0, steps_seen text xs h.1)
 pub steps_stand : (text : List ℕ) (t : Table) (place : ℕ) (p : TypingTree) (steps : List RustStep)
     → ((n : ℕ) → IsSpanOfText text (place_row_numbered t n).span) → map step_of steps ≡ steps_of 0 (row_proof t place p) → All (StepStandsIn text) steps
 steps_stand text t place p steps h are =
-    let there = in_steps (IsSpanOfText text) 0 (row_proof t place p) (in_typing (IsSpanOfText text) t h place p) in
-    All-from_recursion (StepStandsIn text) steps (steps_seen text steps (subst (InSteps (IsSpanOfText text)) (sym are) there))
+    All-from_recursion (StepStandsIn text) steps (steps_seen text steps (subst (InSteps (IsSpanOfText text)) (sym are) (proof_steps (IsSpanOfText text) t place p h)))

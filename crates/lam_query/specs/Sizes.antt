@@ -1,4 +1,4 @@
--- The terms of a document, and the first type in it over the size limit.
+-- The terms of a document, and its size diagnostic.
 use Rattle.std.specs.Prelude.{◌≡◌, ℕ, List, [], map, Some, None}
 use Rattle.lam_token.specs.declared.span.Span.{Span}
 use Rattle.lam_rules.specs.declared.rules.Dialect.{Dialect}

@@ -1,4 +1,4 @@
--- The document in nameless form: each use of a name is a de Bruijn index. A written type is its expansion, so no type name is left in a term.
+-- The document in nameless form: each use of a name is a de Bruijn index, or the name itself if it is unbound. A written type is its expansion, so no type name is left in a term.
 use Rattle.std.specs.Prelude.{ℕ, List, [], ◌∷◌, ◌++◌, Option, Some, None, if◌then◌else◌}
 use Rattle.std.specs.Option.{option_or}
 use Rattle.lam_token.specs.declared.span.Span.{Span}

@@ -53,7 +53,8 @@ RunSays from to start pieces last sink out (Err Device) source_after sink_after 
 RunSays from to start pieces last sink out (Err Memory) source_after sink_after =
     MemoryEnds to start pieces last sink out source_after sink_after
 
--- A run: the pieces pulled, each when all complete messages before it were answered and the input had not ended, the bytes sent, and what the result means for both.
+-- A run: the pieces pulled, each while the input had not ended, the bytes sent, which begin with the answers to all complete messages before each pull, and what the
+-- result means for both.
 pub record Runs {S W : Type 0} (from : SourceView S) (to : SinkView W)
     (start : State) (source : S) (sink : W) (answer : Result ℕ RunFault) (source_after : S) (sink_after : W) : Type 0 where
   pub pieces : List (List ℕ)

@@ -6,7 +6,7 @@ use Rattle.lam_session.specs.declared.session.Condition.TheVariants.{Going, Gave
 use Rattle.lam_session.specs.declared.states.Lifecycle.{Lifecycle}
 use Rattle.lam_session.specs.State.{State, fresh, Snapshot, ended_status}
 
--- The state of a session that gave up: only the lifecycle state is kept, and all else is as before the first message.
+-- The state of a session that gave up: only the lifecycle state is kept, and all else is that of a new session of the first dialect.
 abbrev pub left : Lifecycle → State
 left life = record (fresh One) { life = life }
 

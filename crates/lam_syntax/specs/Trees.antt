@@ -58,7 +58,7 @@ mutual
     no_fields : FieldTrees
     field : Word → TermTree → FieldTrees → FieldTrees
 
--- a command: a definition, a declaration, a type abbreviation or a term to evaluate
+-- a command: a definition, a declaration, a type abbreviation or a term on its own
 pub data CommandTree : Type 0 where
   definition : Word → TermTree → CommandTree
   declaration : Word → TypeTree → CommandTree

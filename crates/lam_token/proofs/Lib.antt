@@ -10,7 +10,9 @@ pub mod Exchanged
 pub mod Places
 pub mod Moved
 pub mod EditedTexts
+pub mod ForeignCharacters
 pub mod NamePlaces
+pub mod TokenEnds
 pub mod BlankEnds
 pub mod SimpleTexts
 pub mod OtherEnds

@@ -1,67 +1,21 @@
 -- Where names stand in a text: they begin and end between two characters, and no byte of theirs ends a line.
-use Rattle.std.proofs.Common.{◌≡◌, ℕ, ◌+◌, ◌<◌, ◌≤◌, Bool, true, false, Some, List, [], ◌∷◌, ◌++◌, length, get_or, ⊎_elim, refl, sym, ap, subst, ◌∙◌, append_assoc, arith, length-append}
-use Rattle.std.specs.Prelude.{◌==◌, ◌||◌, encode_utf8_all}
-use Rattle.std.specs.List.{list_all}
-use Rattle.std.specs.Str.{chars, IsUtf8, all_scalars, NoCharPasses, NonePass}
-use Rattle.std.proofs.lemmas.Bool.{ne_eqb, or_from, and_from, and_parts}
-use Rattle.std.proofs.lemmas.Str.{encodes-append, encodes-chars, scalars-chars, length-le-encodes, NoCharPasses-byte}
-use Rattle.unicode_ident.proofs.IdentLemmas.{is_xid_continue-ascii}
+use Rattle.std.proofs.Common.{◌≡◌, ℕ, ◌+◌, ◌<◌, ◌≤◌, true, Some, List, [], ◌∷◌, ◌++◌, length, get_or, ⊎_elim, refl, sym, ap, subst, ◌∙◌, append_assoc, arith, length-append}
+use Rattle.std.specs.Prelude.{encode_utf8_all}
+use Rattle.std.specs.Str.{chars, IsUtf8, all_scalars}
+use Rattle.std.proofs.lemmas.Str.{encodes-append, encodes-chars, scalars-chars, length-le-encodes}
+use Rattle.std.proofs.lemmas.Str.Pattern.{NoCharPasses-char}
 use Rattle.lam_token.specs.declared.kind.Kind.{Kind}
 use Rattle.lam_token.specs.declared.segment.Segment.TheVariants.{Token}
-use Rattle.lam_token.specs.declared.segment.Beginning.{Beginning}
-use Rattle.lam_token.specs.declared.segment.Beginning.TheVariants as begin
 use Rattle.lam_token.specs.declared.span.Span.{Span}
-use Rattle.lam_token.specs.Shape.{is_continuing, beginning_of, begun, shape_of}
+use Rattle.lam_token.specs.Shape.{shape_of}
 use Rattle.lam_token.specs.Lexeme.{Lexeme}
 use Rattle.lam_token.specs.Cut.{IsFirst, Part, IsCut, AreTokensOf}
 use Rattle.lam_token.specs.Edits.{IsNameKind, AreSpansOf}
-use Rattle.lam_token.proofs.NextSegment.{MayBeginName, begins_tells, chosen_is, name_begins, name_longest}
+use Rattle.lam_token.proofs.ForeignCharacters.{cr_continues_nothing, lf_continues_nothing, none_in_name}
+use Rattle.lam_token.proofs.NextSegment.{name_longest}
 use Rattle.lam_token.proofs.Exchanged.{size, span_at}
 use Rattle.lam_token.proofs.EditedTexts.{scalars_parts}
 use Rattle.lam_token.proofs.Places.{IsPlace, ArePlaces, span_places}
-
--- ---- the characters of a name
-
-continue_behind : (b : Beginning) (c : ℕ) (cs : List ℕ) (kind : Kind) → MayBeginName b → begun b c cs ≡ Some (Token kind) → list_all is_continuing cs ≡ true
-continue_behind begin.Letter c cs kind begins shape = (chosen_is (list_all is_continuing cs) _ (Token kind) shape).0
-continue_behind begin.Underscore c [] kind begins shape = refl
-continue_behind begin.Underscore c (d ∷ cs) kind begins shape = (chosen_is (list_all is_continuing (d ∷ cs)) _ (Token kind) shape).0
-continue_behind _ c cs kind begins shape = absurd (⊎_elim (λ e. cc) (λ e. cc) begins)
-
-name_continues : (kind : Kind) (cs : List ℕ) → IsNameKind kind → shape_of cs ≡ Some (Token kind) → list_all is_continuing cs ≡ true
-name_continues kind [] is shape = refl
-name_continues kind (c ∷ cs) is shape =
-    let begins = name_begins c cs kind is shape in
-    and_from (is_continuing c) (list_all is_continuing cs) (begins_tells c begins).1 (continue_behind (beginning_of c) c cs kind begins shape)
-
--- a CR or an LF
-abbrev ends_line : ℕ → Bool
-ends_line c = (c == 13) || (c == 10)
-
-cr_ends : is_continuing 13 ≡ false
-unfolding is_continuing
-cr_ends = is_xid_continue-ascii 13 (omega arith)
-
-lf_ends : is_continuing 10 ≡ false
-unfolding is_continuing
-lf_ends = is_xid_continue-ascii 10 (omega arith)
-
-no_line_end : (c : ℕ) → is_continuing c ≡ true → ends_line c ≡ false
-no_line_end c goes_on =
-    or_from (c == 13) (c == 10)
-    (ne_eqb c 13 (λ same. let both : true ≡ false = sym goes_on ∙ ap is_continuing same ∙ cr_ends in absurd cc))
-    (ne_eqb c 10 (λ same. let both : true ≡ false = sym goes_on ∙ ap is_continuing same ∙ lf_ends in absurd cc))
-
-no_line_ends : (cs : List ℕ) → list_all is_continuing cs ≡ true → NonePass ends_line cs
-no_line_ends [] all = tt
-no_line_ends (c ∷ cs) all =
-    let parts = and_parts (is_continuing c) (list_all is_continuing cs) all in (no_line_end c parts.0, no_line_ends cs parts.1)
-
-byte_of_name : (bytes : List ℕ) → NoCharPasses ends_line bytes → (i : ℕ) → i < length bytes → (get_or bytes i 0 ≡ 13 → ⊥) × (get_or bytes i 0 ≡ 10 → ⊥)
-byte_of_name bytes none i inside = (
-  λ cr. let both : true ≡ false = sym (ap ends_line cr) ∙ NoCharPasses-byte ends_line bytes i none inside (omega arith) in absurd cc,
-  λ lf. let both : true ≡ false = sym (ap ends_line lf) ∙ NoCharPasses-byte ends_line bytes i none inside (omega arith) in absurd cc,
-)
 
 -- ---- the place of a name among the characters of a text
 
@@ -148,7 +102,10 @@ holds_name kind text s is_text is found =
       is_before = (found.front, (scalars.0, refl));
       is_through = (found.front ++ found.name, (both, sym through));
       some = omega (arith, name_has_characters kind found.name found.shape, length-le-encodes found.name);
-      no_line_end = byte_of_name bytes (found.name, refl, no_line_ends found.name (name_continues kind found.name is found.shape));
+      no_line_end = λ i inside. (
+        NoCharPasses-char 13 bytes i (found.name, refl, none_in_name 13 cr_continues_nothing kind found.name is found.shape) (omega arith) inside,
+        NoCharPasses-char 10 bytes i (found.name, refl, none_in_name 10 lf_continues_nothing kind found.name is found.shape) (omega arith) inside,
+      );
     }
 
 places_hold_names : (kind : Kind) (text : List ℕ) (ps : List Part) (low : ℕ) (spans : List Span) → IsUtf8 text → IsNameKind kind → IsCut (chars text) ps → ArePlaces kind 0 ps low spans → AreNamePlaces text low spans

@@ -1,5 +1,5 @@
 -- The cut of a text into its longest segments, and its tokens.
-use Rattle.std.specs.Prelude.{◌≡◌, ℕ, ◌+◌, ◌<◌, true, false, Option, Some, None, List, [], ◌∷◌, ◌++◌, length, encode_utf8_all}
+use Rattle.std.specs.Prelude.{◌≡◌, ℕ, ◌+◌, ◌-◌, ◌<◌, true, false, Option, Some, None, List, [], ◌∷◌, ◌++◌, length, slice_index, encode_utf8_all}
 use Rattle.std.specs.Str.{chars, IsCharBoundary}
 use Rattle.lam_token.specs.declared.kind.Kind.{Kind}
 use Rattle.lam_token.specs.declared.kind.Kind.TheVariants.{BadCharacter, BadComment}
@@ -57,6 +57,17 @@ AreTokensOf text tokens = AreTokensFrom 0 text tokens
 -- a token begins and ends at character boundaries of the text
 abbrev pub StandsIn : List ℕ → Lexeme → Type 0
 StandsIn text t = IsCharBoundary text (start_of t) × IsCharBoundary text (end_of t)
+
+-- a CR is right before the offset, and an LF at it
+pub record IsBetweenCrAndLf (text : List ℕ) (offset : ℕ) : Type 0 where
+  pub after_start : 0 < offset
+  pub cr : slice_index text (offset - 1) ≡ 13
+  pub lf : slice_index text offset ≡ 10
+
+-- neither end of the token is between a CR and an LF
+pub record KeepsLineEnds (text : List ℕ) (t : Lexeme) : Type 0 where
+  pub start : ¬ (IsBetweenCrAndLf text (start_of t))
+  pub end : ¬ (IsBetweenCrAndLf text (end_of t))
 
 -- the kind of the token that the whole text is by itself, or None if it is not a token
 abbrev pub IsWholeKind : List ℕ → Option Kind → Type 0

@@ -43,7 +43,7 @@ pub enum Kind {
     Arrow,
     /// A `_` by itself.
     Underscore,
-    /// A character with which no lexeme begins.
+    /// A character at which no lexeme begins.
     BadCharacter,
     /// An unclosed comment, which extends to the end of the text.
     BadComment,

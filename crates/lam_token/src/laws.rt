@@ -1,6 +1,6 @@
 //! Properties of the lexer that hold for all texts.
 //! Each is stated as the contract of a function that does nothing.
-ghost use Rattle.std.specs.Prelude.{◌≡◌, ◌↔◌, ℕ, ◌+◌, List, ◌∷◌, ◌++◌, Some, length, map};
+ghost use Rattle.std.specs.Prelude.{◌≡◌, ◌↔◌, ℕ, ◌+◌, List, ◌∷◌, ◌++◌, Some, length, map, All};
 ghost use Rattle.std.specs.Str.{IsUtf8};
 ghost use Rattle.lam_token.specs.declared.kind.Kind.{Kind};
 ghost use Rattle.lam_token.specs.declared.kind.Kind.TheVariants.{Semicolon};
@@ -8,7 +8,7 @@ ghost use Rattle.lam_token.specs.declared.span.Span.{Span};
 ghost use Rattle.lam_token.specs.Lexeme.{Lexeme, kind_of};
 ghost use Rattle.lam_token.specs.Shape.{rest_of_comment};
 ghost use Rattle.lam_token.specs.Comment.{Inside};
-ghost use Rattle.lam_token.specs.Cut.{Part, IsCut, AreTokensFrom, AreTokensOf};
+ghost use Rattle.lam_token.specs.Cut.{Part, IsCut, AreTokensFrom, AreTokensOf, KeepsLineEnds};
 ghost use Rattle.lam_token.specs.Edits.{edited, retold, IsNewName};
 ghost use Rattle.lam_token.specs.Divided.{SemicolonEndsAt, EndsInSemicolon, IsDividedAfter};
 ghost use Rattle.lam_token.specs.MovedTokens.{moved_by, moved_from};
@@ -21,6 +21,11 @@ pub fn comments_nest()
 /// Every list of characters can be cut into segments. That the cut is unique is stated by `lex`.
 pub fn some_cut()
     ensures { (text : List ℕ) → (parts : List Part) × IsCut text parts }
+{}
+
+/// No token begins or ends between a CR and an LF.
+pub fn line_ends_stay_whole(text: &str)
+    ensures { (tokens : List Lexeme) → AreTokensOf text.now tokens → All (KeepsLineEnds text.now) tokens }
 {}
 
 /// Replacing names by a name, or type names by a type name, leaves all other tokens of the text unchanged, except that

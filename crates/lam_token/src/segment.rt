@@ -2,7 +2,7 @@
 
 use crate::kind::Kind;
 
-/// The kind of a segment: one white-space character, a closed comment, or a token.
+/// The kind of a segment: a space, tab, line feed or carriage return, a closed comment, or a token.
 #[derive(Clone, Copy)]
 pub enum Segment {
     Blank,

@@ -16,7 +16,7 @@ IsTypeAt s e t d = (g : Context) × IsContext s g d × HasType g e t d
 abbrev pub IsTyped : Scope → Term → Dialect → Type 0
 IsTyped s e d = (t : Typ) × IsTypeAt s e t d
 
--- a type among them that is below each of them, or none if there is none
+-- a type among them that is below each of them; none only if there are none
 abbrev pub IsLeastAt : Scope → Term → Option Typ → Dialect → Type 0
 IsLeastAt s e (Some t) d = IsTypeAt s e t d × ((u : Typ) → IsTypeAt s e u d → IsBelow t u d)
 IsLeastAt s e None d = (u : Typ) → IsTypeAt s e u d → ⊥
